@@ -1,0 +1,178 @@
+-- Demand 2, of every call on every table and key store, and of data requests clause by clause.
+-- Assumes nothing.
+use mathlib.Core.Path.{_≡_, refl, sym, ap, _∙_, subst}
+use mathlib.Core.Bool.{Bool, true, false, cond, not, _&&_, _||_}
+use mathlib.Core.Option.{none, some}
+use mathlib.Core.List.{List, [], _∷_, _++_}
+use Prim.Native.Nat.{ℕ, _+_, _<_}
+use native.Mathlib.Omega.{arith}
+use lib.Dec.{eqb, ltb}
+use lib.ListN.{length, List·getD-eq-default}
+use borrow.Author.Tests.{eqb-true, eq-eqb, ltb-true, ltb-false, lt-ltb, leb-true, le-leb, not-true}
+use Rattle.lists.specs.Test.{false-true, and-true, implies, implied}
+use Rattle.lists.specs.Seek.{index-first, first-passes}
+use Rattle.model.specs.declared.Table.{Table}
+use Rattle.model.specs.Bytes.{le32}
+use Rattle.model.specs.Answer.{ok, Check, firstFail, granted}
+use Rattle.model.specs.Algorithm.{cipher}
+use Rattle.model.specs.Session.{World, Session, free, slotsOf, placeAt, guestAt, directed}
+use Rattle.model.specs.View.{live, liveAt, entryAt, find, sessionIn, present, setting, view, full}
+use Rattle.model.specs.Control.{service}
+use Rattle.model.specs.Data.{number, flag, direction, start, lengths, dataChecks}
+use Rattle.model.specs.Device.{Request, Attach, Control, Admit, Part, KeyAnswer, Key, Finish, checksOf, checks, outcome, reply, answered}
+use Rattle.laws.specs.Judge.{Passed, answers, answers-of, passed-first, first-failed, holds-at}
+use Rattle.laws.specs.Effect.{checks-passed}
+use Rattle.demands.specs.Statement.{success, Demand2, named, Acceptable}
+
+-- a pair, for a list of facts
+infixr 4 _▸_
+_▸_ : {A B : Type 0} → A → B → A × B
+a ▸ b = (a, b)
+
+-- ---- every call
+
+-- a check that fails does not answer 0
+answers-at : (cs ds : List Check) (b : Bool) (n : ℕ) → answers (cs ++ (b, n) ∷ ds) ≡ true → eqb n ok ≡ false
+answers-at [] ds b n h = not-true (eqb n ok) (and-true (not (eqb n ok)) (answers ds) h .0)
+answers-at (c ∷ cs) ds b n h = answers-at cs ds b n (and-true (not (eqb (c .1) ok)) (answers (cs ++ (b, n) ∷ ds)) h .1)
+
+answers-all : (w : World) (g : ℕ) (q : Request) → answers (checks w g q) ≡ true
+unfolding checks
+answers-all w g q = answers-of (setting w) g (view w g) (full (w .table) g) q
+
+-- the answer, by the number n of the checks
+reply-answer : (w : World) (g : ℕ) (q : Request) → reply w g q .answer ≡ cond (granted (firstFail (checks w g q))) (success q) (firstFail (checks w g q))
+unfolding reply outcome
+reply-answer w g q = by q
+  where
+    zero-or : (n : ℕ) → n ≡ cond (granted n) ok n
+    zero-or n = go (granted n) refl
+      where
+        go : (b : Bool) → granted n ≡ b → n ≡ cond b ok n
+        go true e = eqb-true n ok e
+        go false e = refl
+
+    finish : (b : Bool) (n s : ℕ) (c d : List ℕ) → cond b (answered s c) (answered n d) .answer ≡ cond b s n
+    finish true n s c d = refl
+    finish false n s c d = refl
+
+    by : (q : Request) → outcome g (view w g) q (firstFail (checks w g q)) .answer ≡ cond (granted (firstFail (checks w g q))) (success q) (firstFail (checks w g q))
+    by (Attach word) = zero-or _
+    by (Control r b) = zero-or _
+    by (Admit r b) = zero-or _
+    by (Part x r b) = zero-or _
+    by (KeyAnswer n) = zero-or _
+    by (Key n) = zero-or _
+    by (Finish op verdict b) = finish (granted (firstFail (checks w g (Finish op verdict b)))) _ _ _ _
+
+pub demand2 : (w : World) (g : ℕ) (q : Request) → Demand2 w g q
+demand2 w g q = record { all = all; first = first; only = only }
+  where
+    n : ℕ
+    n = firstFail (checks w g q)
+
+    all : Passed (checks w g q) → reply w g q .answer ≡ success q
+    all p = reply-answer w g q ∙ rw (eq-eqb n ok (passed-first (checks w g q) p))
+
+    first : (before after : List Check) (m : ℕ) → checks w g q ≡ before ++ (false, m) ∷ after → Passed before → reply w g q .answer ≡ m
+    first before after m e p =
+        let f : n ≡ m = ap firstFail e ∙ first-failed before after m p in
+        let z : eqb m ok ≡ false = answers-at before after false m (sym (ap answers e) ∙ answers-all w g q) in
+        reply-answer w g q ∙ ap (λ k. cond (granted k) (success q) k) f ∙ rw z
+
+    only : reply w g q .answer ≡ ok → Passed (checks w g q)
+    only e = checks-passed w g q (go (granted n) refl (sym (reply-answer w g q) ∙ e))
+      where
+        go : (b : Bool) → granted n ≡ b → cond b (success q) n ≡ ok → n ≡ ok
+        go true h z = eqb-true n ok h
+        go false h z = z
+
+-- ---- the session that a data request names
+
+-- a search that ended within the slots found a live session
+found-live : (t : Table) (g n : ℕ) → liveAt t g n < length (slotsOf t) → live t g n (placeAt t (liveAt t g n)) ≡ true
+found-live t g n h = first-passes (live t g n) (placeAt t (liveAt t g n)) (slotsOf t) (index-first (live t g n) free (slotsOf t) h)
+
+-- and one that ended behind them found none
+live-found : (t : Table) (g n : ℕ) → live t g n (placeAt t (liveAt t g n)) ≡ true → ltb (liveAt t g n) (length (slotsOf t)) ≡ true
+live-found t g n e = go (ltb (liveAt t g n) (length (slotsOf t))) refl
+  where
+    go : (b : Bool) → ltb (liveAt t g n) (length (slotsOf t)) ≡ b → b ≡ true
+    go true q = refl
+    go false q =
+        let d : placeAt t (liveAt t g n) ≡ free = List·getD-eq-default (slotsOf t) free {n = liveAt t g n} (ltb-false (liveAt t g n) (length (slotsOf t)) q) in
+        absurd (false-true (sym (ap (live t g n) d) ∙ e))
+
+-- ---- data requests: accepted exactly if acceptable
+
+module _ (w : World) (g : ℕ) (r b : List ℕ) where
+  abbrev t : Table
+  t = w .table
+
+  abbrev at : ℕ
+  at = liveAt t g (number r)
+
+  abbrev here : Bool
+  here = present g (guestAt t g)
+
+  -- the checks, where the search ended within the slots or behind them
+  abbrev checksBy : Bool → List Check
+  checksBy s = dataChecks (t .config) here (sessionIn (cond s (some (entryAt w at)) none)) r (length b)
+
+  admit-checks : checks w g (Admit r b) ≡ checksBy (ltb at (length (slotsOf t)))
+  unfolding checks checksOf find
+  admit-checks = refl
+
+  passed-acceptable : (s : Bool) → ltb at (length (slotsOf t)) ≡ s → Passed (checksBy s) → Acceptable t g r b
+  unfolding present
+  passed-acceptable false e p = absurd (false-true (holds-at (checksBy false) 6 p))
+  passed-acceptable true e p =
+      let x = named t g r .session in
+      let h = and-true (ltb g 8) (guestAt t g .attached) (holds-at (checksBy true) 0 p) in
+      let u = and-true (eqb (x .service) (service r)) (not (directed (service r)) || eqb (x .direction) (direction r)) (holds-at (checksBy true) 6 p) in
+      let v = and-true (eqb (length r) (start r + lengths r .iv + lengths r .source + lengths r .aad)) (eqb (length b) (lengths r .written + 1)) (holds-at (checksBy true) 10 p) in
+      record {
+        guest = ltb-true g 8 (h .0);
+        attached = h .1;
+        operation = holds-at (checksBy true) 3 p;
+        mode = eqb-true (flag r) 1 (holds-at (checksBy true) 5 p);
+        type = λ c. eqb-true (le32 r 64) 1 (implied (eqb (service r) cipher) (eqb (le32 r 64) 1) (holds-at (checksBy true) 8 p) (eq-eqb (service r) cipher c));
+        alive = found-live t g (number r) (ltb-true at (length (slotsOf t)) e);
+        serves = eqb-true (x .service) (service r) (u .0);
+        directs = λ d. eqb-true (x .direction) (direction r) (implied (directed (service r)) (eqb (x .direction) (direction r)) (u .1) d);
+        readable = eqb-true (length r) _ (v .0);
+        writable = eqb-true (length b) _ (v .1);
+        limit = leb-true _ (t .config .size) (holds-at (checksBy true) 9 p);
+        algorithm = holds-at (checksBy true) 11 p;
+      }
+
+  acceptable-passed : Acceptable t g r b → Passed (checksBy true)
+  unfolding present
+  acceptable-passed a =
+      (rw (lt-ltb g 8 (a .guest), a .attached))
+      ▸ le-leb 1 (length b) (omega (arith, a .writable))
+      ▸ le-leb 24 (length r) (omega (arith, a .readable))
+      ▸ a .operation
+      ▸ (rw (a .mode))
+      ▸ eq-eqb (flag r) 1 (a .mode)
+      ▸ suits-session
+      ▸ le-leb (start r) (length r) (omega (arith, a .readable))
+      ▸ implies (eqb (service r) cipher) (eqb (le32 r 64) 1) (λ c. eq-eqb (le32 r 64) 1 (a .type (eqb-true (service r) cipher c)))
+      ▸ le-leb _ (t .config .size) (a .limit)
+      ▸ (rw (eq-eqb (length r) _ (a .readable), eq-eqb (length b) _ (a .writable)))
+      ▸ a .algorithm
+      ▸ tt
+    where
+      x : Session
+      x = named t g r .session
+
+      suits-session : eqb (x .service) (service r) && (not (directed (service r)) || eqb (x .direction) (direction r)) ≡ true
+      suits-session =
+          rw (eq-eqb (x .service) (service r) (a .serves))
+          (implies (directed (service r)) (eqb (x .direction) (direction r)) (λ d. eq-eqb (x .direction) (direction r) (a .directs d)))
+
+  pub accepted : (Acceptable t g r b → reply w g (Admit r b) .answer ≡ ok) × (reply w g (Admit r b) .answer ≡ ok → Acceptable t g r b)
+  accepted = (
+    λ a. demand2 w g (Admit r b) .all (subst Passed (sym (admit-checks ∙ ap checksBy (live-found t g (number r) (a .alive)))) (acceptable-passed a)),
+    λ e. passed-acceptable (ltb at (length (slotsOf t))) refl (subst Passed admit-checks (demand2 w g (Admit r b) .only e)),
+  )

@@ -1,0 +1,11 @@
+pub mod Statement
+pub mod Demand1
+pub mod Demand2
+pub mod Checks
+pub mod Instance
+pub mod Start
+pub mod Steps
+pub mod History
+pub mod Demand3
+pub mod ZeroRule
+pub mod Excluded

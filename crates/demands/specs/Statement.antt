@@ -1,0 +1,146 @@
+-- The demands, as statements about the definitions of crate model. The other files of this crate prove them; no proof stands here.
+-- Assumes nothing.
+use mathlib.Core.Path.{_≡_}
+use mathlib.Core.Logic.{_⊎_}
+use mathlib.Core.Bool.{true, false}
+use mathlib.Core.List.{List, [], _∷_, _++_}
+use Prim.Native.Nat.{ℕ, suc, _+_, _-_, _≤_, _<_}
+use lib.ListN.{length, getD}
+use Rattle.model.specs.declared.Table.{Table}
+use Rattle.model.specs.Bytes.{le, le32}
+use Rattle.model.specs.Answer.{ok, err, badmsg, notsupp, invsess, nospc, badGuest, noOutcome, badStore, badFeature, badShares, badConfig, Check}
+use Rattle.model.specs.Lens.{orIn}
+use Rattle.model.specs.Algorithm.{cipher}
+use Rattle.model.specs.Session.{slotCount, lastNumber, World, Place, placeAt, guestAt, directed}
+use Rattle.model.specs.View.{live, liveAt, holds, total}
+use Rattle.model.specs.Setup.{configOf, freshTable, setUpAnswer, setUp}
+use Rattle.model.specs.Control.{opcode, service}
+use Rattle.model.specs.Data.{number, flag, operationOk, direction, start, lengths, fits, status}
+use Rattle.model.specs.Device.{Request, Attach, Control, Admit, Part, KeyAnswer, Key, Finish, checks, reply, next}
+use Rattle.model.specs.Calls.{Call, run, outcomes, only, pastOf, WellFormed}
+use Rattle.laws.specs.Judge.{Passed}
+
+-- ---- demand 1: every input gets a defined answer; a refusal has its number, writes only its outcome bytes and changes nothing
+
+-- the numbers of 01's table
+abbrev pub answerNumbers : List ℕ
+answerNumbers = ok ∷ err ∷ badmsg ∷ notsupp ∷ invsess ∷ nospc ∷ badGuest ∷ noOutcome ∷ badStore ∷ badFeature ∷ badShares ∷ badConfig ∷ []
+
+-- the writable bytes that a call was given
+abbrev pub buffer : Request → List ℕ
+buffer (Attach word) = []
+buffer (Control r b) = b
+buffer (Admit r b) = b
+buffer (Part x r b) = b
+buffer (KeyAnswer n) = []
+buffer (Key n) = []
+buffer (Finish op verdict b) = b
+
+-- c is b with the status as its last byte, and every other byte kept
+pub record LastByte (b c : List ℕ) (status : ℕ) : Type 0 where
+  pub nonempty : 0 < length b
+  pub size : length c ≡ length b
+  pub last : getD c (length b - 1) 0 ≡ status
+  pub others : (i : ℕ) → (suc i ≡ length b → ⊥) → getD c i 0 ≡ getD b i 0
+
+-- what a refusal with a number n from 1 to 5 leaves in the writable bytes
+abbrev pub Refusal : Request → ℕ → List ℕ → Type 0
+Refusal (Attach word) n c = c ≡ []
+-- 16 bytes: session_id 0, status, padding 0; one byte: status
+Refusal (Control r b) n c = ((length b ≡ 16) × (c ≡ le 8 0 ++ le 4 n ++ le 4 0)) ⊎ ((length b ≡ 1) × (c ≡ n ∷ []))
+Refusal (Admit r b) n c = LastByte b c n
+Refusal (Part x r b) n c = c ≡ b
+Refusal (KeyAnswer m) n c = c ≡ []
+Refusal (Key m) n c = c ≡ []
+Refusal (Finish op verdict b) n c = LastByte b c n
+
+pub record Demand1 (w : World) (g : ℕ) (q : Request) : Type 0 where
+  pub number : orIn false (reply w g q .answer) answerNumbers ≡ true
+  -- every answer but 0 leaves table and key store as before
+  pub kept : (reply w g q .answer ≡ ok → ⊥) → next w g q ≡ w
+  -- an answer from 16 on writes nothing
+  pub silent : badGuest ≤ reply w g q .answer → reply w g q .writable ≡ buffer q
+  -- one from 1 to 5 writes the bytes that 01 names and no other
+  pub written : 0 < reply w g q .answer → reply w g q .answer < badGuest → Refusal q (reply w g q .answer) (reply w g q .writable)
+
+-- of a refused set-up: the key store stays, and the table is the empty one
+pub record SetUpRefused (config reserves caps store : List ℕ) : Type 0 where
+  pub number : orIn false (setUpAnswer config reserves caps store) (badStore ∷ badShares ∷ badConfig ∷ []) ≡ true
+  pub kept : setUp config reserves caps store .store ≡ store
+  pub empty : setUp config reserves caps store .table ≡ freshTable (configOf []) [] []
+
+-- ---- demand 2: accepted exactly if every check holds, else the first to fail in 01's order answers
+
+-- the answer where every check holds: a finish answers the byte that it writes
+abbrev pub success : Request → ℕ
+success (Attach word) = ok
+success (Control r b) = ok
+success (Admit r b) = ok
+success (Part x r b) = ok
+success (KeyAnswer n) = ok
+success (Key n) = ok
+success (Finish op verdict b) = status op verdict
+
+pub record Demand2 (w : World) (g : ℕ) (q : Request) : Type 0 where
+  -- every check holds
+  pub all : Passed (checks w g q) → reply w g q .answer ≡ success q
+  -- those before it hold, and this one does not: its number answers
+  pub first : (before after : List Check) (n : ℕ) → checks w g q ≡ before ++ (false, n) ∷ after → Passed before → reply w g q .answer ≡ n
+  -- an answer 0 tells that every check holds
+  pub only : reply w g q .answer ≡ ok → Passed (checks w g q)
+
+-- the slot of the session that a data request names
+abbrev pub named : Table → ℕ → List ℕ → Place
+named t g r = placeAt t (liveAt t g (number r))
+
+-- a data request of guest g with readable bytes r and writable bytes b is accepted exactly if
+pub record Acceptable (t : Table) (g : ℕ) (r b : List ℕ) : Type 0 where
+  -- its guest is attached
+  pub guest : g < 8
+  pub attached : guestAt t g .attached ≡ true
+  -- its operation offered
+  pub operation : operationOk (t .config) (opcode r) ≡ true
+  -- its mode and type those that 01 takes
+  pub mode : flag r ≡ 1
+  pub type : service r ≡ cipher → le32 r 64 ≡ 1
+  -- its session live and its own guest's
+  pub alive : live t g (number r) (named t g r) ≡ true
+  -- of the matching service and direction
+  pub serves : named t g r .session .service ≡ service r
+  pub directs : directed (service r) ≡ true → named t g r .session .direction ≡ direction r
+  -- and its lengths fit both buffers,
+  pub readable : length r ≡ start r + lengths r .iv + lengths r .source + lengths r .aad
+  pub writable : length b ≡ lengths r .written + 1
+  -- the size limit
+  pub limit : lengths r .iv + lengths r .source + lengths r .aad + lengths r .written ≤ t .config .size
+  -- and the algorithm
+  pub algorithm : fits (named t g r .session) (lengths r) ≡ true
+
+-- ---- demand 3: one claim about the whole list of calls
+
+-- each well-formed create of guest g comes while it holds fewer than its reserve
+unfoldable pub Within : ℕ → World → List (Call Request) → Type 0
+Within g w [] = Unit {0}
+Within g w (c ∷ cs) =
+    (c .guest ≡ g → (r b : List ℕ) → c .request ≡ Control r b → WellFormed w g r b → holds (w .table) g < guestAt (w .table) g .reserve)
+    × Within g (next w (c .guest) (c .request)) cs
+
+-- of the list cs, from the table and key store w that a set-up left
+pub record Demand3 (w : World) (cs : List (Call Request)) : Type 0 where
+  -- no guest holds more sessions than its cap, and all together hold at most 128
+  pub caps : (g : ℕ) → holds (run w cs .table) g ≤ guestAt (w .table) g .cap
+  pub bound : total (run w cs .table) ≤ slotCount
+  -- a well-formed create that comes next, from an attached guest that holds fewer than its reserve and has numbers left, is granted;
+  -- 01's term "numbers left": the last one given to it since its last granted attach is not 4,294,967,295
+  pub grants : (g : ℕ) (r b : List ℕ)
+      → pastOf g w cs .attached ≡ true
+      → WellFormed (run w cs) g r b
+      → (pastOf g w cs .last ≡ lastNumber → ⊥)
+      → holds (run w cs .table) g < guestAt (w .table) g .reserve
+      → reply (run w cs) g (Control r b) .answer ≡ ok
+  -- a guest that stays within its reserve gets, call by call, what it gets in the list with only its own calls
+  pub same : (g : ℕ) → Within g w cs → outcomes g w cs ≡ outcomes g w (only g cs)
+  -- the history rule: what a guest holds is its granted creates less its granted destroys since its last granted attach
+  pub history : (g : ℕ) → holds (run w cs .table) g + pastOf g w cs .destroys ≡ pastOf g w cs .creates
+  -- and each granted create took the next session number, from 1
+  pub numbers : (g : ℕ) → pastOf g w cs .last ≡ pastOf g w cs .creates

@@ -1,0 +1,97 @@
+-- The state that the theorems speak of: each slot with its key area. The table and flat store follow it (crate follows).
+-- Assumes nothing.
+use mathlib.Core.Bool.{Bool, false, not, _&&_, _||_}
+use mathlib.Core.Option.{Option, none, some}
+use mathlib.Core.List.{List}
+use Prim.Native.Nat.{ℕ, _+_, _-_}
+use lib.Dec.{eqb, leb, ltb}
+use lib.ListN.{getD}
+use Rattle.lists.specs.Seek.{count, first}
+use Rattle.lists.specs.Sum.{sumTo, except}
+use Rattle.model.specs.declared.Guest.{Guest}
+use Rattle.model.specs.Session.{slotCount, Entry, noSession, newGuest, zeros, accepts}
+use Rattle.model.specs.View.{View, Setting, sized}
+
+-- a slot with its key area
+pub record Cell : Type 0 where
+  pub held : Bool
+  pub owner : ℕ
+  pub number : ℕ
+  pub entry : Entry
+
+pub record State : Type 0 where
+  pub setting : Setting
+  pub cells : List Cell
+  pub guests : List Guest
+
+abbrev pub noCell : Cell
+noCell = record { held = false; owner = 0; number = 0; entry = record { session = noSession; key = zeros } }
+
+-- the key store has its size
+abbrev pub stored : Setting → Bool
+stored k = sized (k .store)
+
+-- ---- tests on a slot
+
+abbrev pub isHeld : Cell → Bool
+isHeld c = c .held
+
+abbrev pub isFree : Cell → Bool
+isFree c = not (c .held)
+
+abbrev pub owns : ℕ → Cell → Bool
+owns g c = c .held && eqb (c .owner) g
+
+abbrev pub named : ℕ → ℕ → Cell → Bool
+named g n c = owns g c && eqb (c .number) n
+
+-- the number was given to the guest with record r, and the session can be
+abbrev pub given : Setting → Guest → ℕ → Cell → Bool
+given k r n c = r .attached && ltb 0 n && leb n (r .last) && accepts (k .config) (c .entry .session)
+
+-- the slot is the live session n of guest g, whose record is r
+abbrev pub matches : Setting → Guest → ℕ → ℕ → Cell → Bool
+matches k r g n c = named g n c && given k r n c
+
+-- ---- room
+
+abbrev pub guestOf : State → ℕ → Guest
+guestOf s g = getD (s .guests) g (newGuest 0 0)
+
+abbrev pub holds : State → ℕ → ℕ
+holds s g = count (owns g) (s .cells)
+
+abbrev pub unmet : State → ℕ → ℕ
+unmet s g = guestOf s g .reserve - holds s g
+
+abbrev pub total : State → ℕ
+total s = count isHeld (s .cells)
+
+-- the other guests' unmet reserves
+abbrev pub owed : State → ℕ → ℕ
+owed s g = sumTo 8 (except g (unmet s))
+
+abbrev pub atCap : State → ℕ → Bool
+atCap s g = leb (guestOf s g .cap) (holds s g)
+
+abbrev pub crowded : State → ℕ → Bool
+crowded s g = leb (guestOf s g .reserve) (holds s g) && leb slotCount (total s + owed s g)
+
+abbrev pub noneFree : State → Bool
+noneFree s = eqb (count isFree (s .cells)) 0
+
+-- no room for one more session of guest g
+unfoldable pub full : State → ℕ → Bool
+full s g = atCap s g || crowded s g || noneFree s
+
+-- ---- a guest's view
+
+abbrev pub entryOf : Option Cell → Option Entry
+entryOf none = none
+entryOf (some c) = some (c .entry)
+
+abbrev pub viewIn : Setting → Guest → List Cell → ℕ → View
+viewIn k r l g = record { guest = r; holds = count (owns g) l; find = λ n. entryOf (first (matches k r g n) l) }
+
+abbrev pub view : State → ℕ → View
+view s g = viewIn (s .setting) (guestOf s g) (s .cells) g

@@ -1,0 +1,11 @@
+pub mod Cells
+pub mod Apply
+pub mod Good
+pub mod Lawful
+pub mod Views
+pub mod Invariant
+pub mod Rules
+pub mod Alone
+pub mod Past
+pub mod Demand
+pub mod Zero

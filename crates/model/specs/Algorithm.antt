@@ -1,0 +1,114 @@
+-- Paper 01, "Rules per algorithm". Algorithm and service numbers are document 001's.
+use Prim.Native.Nat.{ℕ, _+_}
+use mathlib.Core.List.{List, [], _∷_}
+use mathlib.Core.Bool.{Bool, false, cond, _&&_, _||_}
+use lib.Dec.{eqb}
+use Rattle.model.specs.Lens.{Lens, oneOf, span, multiple, atLeast, any, Rule, orIn, ruled}
+
+-- ---- the services
+
+abbrev pub cipher : ℕ
+cipher = 0
+
+abbrev pub hash : ℕ
+hash = 1
+
+abbrev pub mac : ℕ
+mac = 2
+
+abbrev pub aead : ℕ
+aead = 3
+
+-- ---- the algorithms of each service
+
+-- AES_ECB 2, AES_CBC 3, AES_CTR 4, 3DES_CBC 8, AES_XTS 13
+abbrev pub ciphers : List ℕ
+ciphers = 2 ∷ 3 ∷ 4 ∷ 8 ∷ 13 ∷ []
+
+-- MD5 1, SHA1 2, SHA_224 3, SHA_256 4, SHA_384 5, SHA_512 6
+abbrev pub hashes : List ℕ
+hashes = 1 ∷ 2 ∷ 3 ∷ 4 ∷ 5 ∷ 6 ∷ []
+
+-- HMAC over the same six, CMAC_AES 26
+abbrev pub macs : List ℕ
+macs = 1 ∷ 2 ∷ 3 ∷ 4 ∷ 5 ∷ 6 ∷ 26 ∷ []
+
+-- GCM 1, CCM 2, CHACHA20_POLY1305 3
+abbrev pub aeads : List ℕ
+aeads = 1 ∷ 2 ∷ 3 ∷ []
+
+-- ---- cipher
+
+abbrev pub aes : Lens
+aes = oneOf (16 ∷ 24 ∷ 32 ∷ [])
+
+abbrev pub cipherKeys : Rule
+cipherKeys = (2, aes) ∷ (3, aes) ∷ (4, aes) ∷ (8, oneOf (24 ∷ [])) ∷ (13, oneOf (32 ∷ 64 ∷ [])) ∷ []
+
+abbrev pub cipherIvs : Rule
+cipherIvs = (2, oneOf (0 ∷ [])) ∷ (3, oneOf (16 ∷ [])) ∷ (4, oneOf (16 ∷ [])) ∷ (8, oneOf (8 ∷ [])) ∷ (13, oneOf (16 ∷ [])) ∷ []
+
+abbrev pub cipherSources : Rule
+cipherSources = (2, multiple 16) ∷ (3, multiple 16) ∷ (4, any) ∷ (8, multiple 8) ∷ (13, atLeast 16) ∷ []
+
+-- ---- hash and MAC
+
+abbrev pub hashResults : Rule
+hashResults = (1, span 1 16) ∷ (2, span 1 20) ∷ (3, span 1 28) ∷ (4, span 1 32) ∷ (5, span 1 48) ∷ (6, span 1 64) ∷ []
+
+abbrev pub macKeys : Rule
+macKeys = (1, span 1 64) ∷ (2, span 1 64) ∷ (3, span 1 64) ∷ (4, span 1 64) ∷ (5, span 1 64) ∷ (6, span 1 64) ∷ (26, aes) ∷ []
+
+abbrev pub cmacResults : Rule
+cmacResults = (26, span 1 16) ∷ []
+
+-- ---- AEAD
+
+abbrev pub aeadKeys : Rule
+aeadKeys = (1, aes) ∷ (2, aes) ∷ (3, oneOf (32 ∷ [])) ∷ []
+
+abbrev pub aeadIvs : Rule
+aeadIvs = (1, oneOf (12 ∷ [])) ∷ (2, span 7 13) ∷ (3, oneOf (12 ∷ [])) ∷ []
+
+abbrev pub aeadTags : Rule
+aeadTags =
+    (1, oneOf (4 ∷ 8 ∷ 12 ∷ 13 ∷ 14 ∷ 15 ∷ 16 ∷ []))
+    ∷ (2, oneOf (4 ∷ 6 ∷ 8 ∷ 10 ∷ 12 ∷ 14 ∷ 16 ∷ []))
+    ∷ (3, oneOf (16 ∷ []))
+    ∷ []
+
+-- ---- by service; a length that the service does not have is not looked at
+
+-- the algorithm stands in the rules
+unfoldable pub known : ℕ → ℕ → Bool
+known service algo =
+    eqb service cipher && orIn false algo ciphers
+    || eqb service hash && orIn false algo hashes
+    || eqb service mac && orIn false algo macs
+    || eqb service aead && orIn false algo aeads
+
+unfoldable pub keyOk : ℕ → ℕ → ℕ → Bool
+keyOk service algo n =
+    eqb service cipher && ruled cipherKeys algo n
+    || eqb service hash
+    || eqb service mac && ruled macKeys algo n
+    || eqb service aead && ruled aeadKeys algo n
+
+-- a hash or MAC result, or an AEAD tag
+unfoldable pub resultOk : ℕ → ℕ → ℕ → Bool
+resultOk service algo n =
+    eqb service cipher
+    || eqb service hash && ruled hashResults algo n
+    || eqb service mac && (ruled hashResults algo n || ruled cmacResults algo n)
+    || eqb service aead && ruled aeadTags algo n
+
+unfoldable pub ivOk : ℕ → ℕ → ℕ → Bool
+ivOk service algo n =
+    eqb service cipher && ruled cipherIvs algo n || eqb service hash || eqb service mac || eqb service aead && ruled aeadIvs algo n
+
+unfoldable pub sourceOk : ℕ → ℕ → ℕ → Bool
+sourceOk service algo n = eqb service cipher && ruled cipherSources algo n || eqb service hash || eqb service mac || eqb service aead
+
+-- the bytes written before the status: a cipher's destination is its source, an AEAD's its source plus tag; a hash or MAC writes its result
+unfoldable pub writtenLen : ℕ → ℕ → ℕ → ℕ
+writtenLen service source result = cond (eqb service cipher) source (cond (eqb service aead) (source + result) result)

@@ -1,0 +1,114 @@
+-- Paper 01, "Control requests". Header 16 bytes: opcode 0, algo 4, flag 8, reserved 12; then the fixed part; then the key.
+-- Flag, reserved and padding are ignored: nothing here reads them.
+use Prim.Native.Nat.{ℕ, _+_, _/_, _%_}
+use mathlib.Core.Bool.{Bool, false, cond, not, _&&_, _||_}
+use mathlib.Core.Option.{Option, none, some}
+use mathlib.Core.List.{List, [], _∷_, _++_}
+use lib.Dec.{eqb, leb, ltb}
+use lib.ListN.{length}
+use Rattle.model.specs.declared.Config.{Config}
+use Rattle.model.specs.Bytes.{le32, le64, part}
+use Rattle.model.specs.Answer.{err, notsupp, nospc, badGuest, noOutcome, badStore, Check}
+use Rattle.model.specs.Lens.{orIn}
+use Rattle.model.specs.Algorithm.{cipher, hash, mac, aead}
+use Rattle.model.specs.Session.{lastNumber, Session, Entry, keyArea, bit, offers, directionOk, lengthsOk}
+use Rattle.model.specs.View.{Setting, View, sized, present}
+use Rattle.model.specs.Act.{Act, create, destroy}
+
+-- ---- the header
+
+abbrev pub opcode : List ℕ → ℕ
+opcode r = le32 r 0
+
+-- "Opcode is service·256 + 2 (create) or 3 (destroy)"
+abbrev pub service : List ℕ → ℕ
+service r = opcode r / 256
+
+abbrev pub isCreate : List ℕ → Bool
+isCreate r = eqb (opcode r % 256) 2
+
+-- the opcode is known and its service offered
+unfoldable pub opcodeOk : Config → ℕ → Bool
+opcodeOk k op = orIn false op (2 ∷ 3 ∷ 258 ∷ 259 ∷ 514 ∷ 515 ∷ 770 ∷ 771 ∷ []) && bit (k .services) (op / 256)
+
+-- ---- a create's fixed part, by service: virtio_crypto_sym_create_session_flf, _hash_, _mac_ and _aead_
+
+abbrev pub createPart : ℕ → ℕ
+createPart s = cond (eqb s cipher) 56 (cond (eqb s hash) 8 (cond (eqb s mac) 16 24))
+
+-- the session that it asks for, 0 where the service has no such field
+unfoldable pub asked : List ℕ → Session
+asked r =
+    cond (eqb (service r) cipher)
+    (record { service = cipher; algo = le32 r 16; direction = le32 r 24; keylen = le32 r 20; result = 0; aad = 0 })
+    (cond (eqb (service r) hash)
+    (record { service = hash; algo = le32 r 16; direction = 0; keylen = 0; result = le32 r 20; aad = 0 })
+    (cond (eqb (service r) mac)
+    (record { service = mac; algo = le32 r 16; direction = 0; keylen = le32 r 24; result = le32 r 20; aad = 0 })
+    (record { service = aead; algo = le32 r 16; direction = le32 r 32; keylen = le32 r 20; result = le32 r 24; aad = le32 r 28 })))
+
+-- a cipher's op_type (offset 48 of the fixed part) is 1
+abbrev pub plainCreate : List ℕ → Bool
+plainCreate r = not (eqb (service r) cipher) || eqb (le32 r 64) 1
+
+-- the new session with its key area
+unfoldable pub newEntry : List ℕ → Entry
+newEntry r = record { session = asked r; key = keyArea (asked r .service) (part r (16 + createPart (asked r .service)) (asked r .keylen)) }
+
+-- ---- the checks in order, over the readable bytes and the number of writable bytes
+
+-- step 1
+abbrev pub placeChecks : ℕ → Bool → ℕ → List Check
+placeChecks store here room = (sized store, badStore) ∷ (here, badGuest) ∷ (eqb room 16 || eqb room 1, noOutcome) ∷ []
+
+-- steps 2 and 3
+abbrev pub headChecks : Config → List ℕ → ℕ → List Check
+headChecks k r room =
+    (leb 16 (length r), err)
+    ∷ (opcodeOk k (opcode r), notsupp)
+    ∷ (eqb room (cond (isCreate r) 16 1), err)
+    ∷ (leb (16 + cond (isCreate r) (createPart (service r)) 8) (length r), err)
+    ∷ []
+
+-- step 4, up to the session number
+abbrev pub sessionChecks : Config → List ℕ → List Check
+sessionChecks k r =
+    (plainCreate r, notsupp)
+    ∷ (offers k (asked r .service) (asked r .algo), notsupp)
+    ∷ (eqb (le32 r 4) (asked r .algo), err)
+    ∷ (directionOk (asked r), err)
+    ∷ (lengthsOk k (asked r), err)
+    ∷ (eqb (length r) (16 + createPart (asked r .service) + asked r .keylen), err)
+    ∷ []
+
+-- 01's term "well-formed", of a create: it passes these, every check before the session number check
+abbrev pub formChecks : Setting → ℕ → View → List ℕ → ℕ → List Check
+formChecks k g v r room = placeChecks (k .store) (present g (v .guest)) room ++ headChecks (k .config) r room ++ sessionChecks (k .config) r
+
+abbrev pub numbersLeft : View → Bool
+numbersLeft v = ltb (v .guest .last) lastNumber
+
+-- a create's; f says that it is NOSPC
+abbrev pub createChecks : Setting → ℕ → View → Bool → List ℕ → ℕ → List Check
+createChecks k g v f r room = formChecks k g v r room ++ (numbersLeft v, err) ∷ (not f, nospc) ∷ []
+
+-- a live session of service s
+abbrev pub ofService : ℕ → Option Entry → Bool
+ofService s none = false
+ofService s (some e) = eqb (e .session .service) s
+
+-- a destroy's: step 5
+abbrev pub destroyChecks : Setting → ℕ → View → List ℕ → ℕ → List Check
+destroyChecks k g v r room =
+    placeChecks (k .store) (present g (v .guest)) room
+    ++ headChecks (k .config) r room
+    ++ (eqb (length r) 24, err)
+    ∷ (ofService (service r) (v .find (le64 r 16)), err)
+    ∷ []
+
+unfoldable pub controlChecks : Setting → ℕ → View → Bool → List ℕ → ℕ → List Check
+controlChecks k g v f r room = cond (isCreate r) (createChecks k g v f r room) (destroyChecks k g v r room)
+
+-- what a control request asks for
+abbrev pub controlAct : List ℕ → Act
+controlAct r = cond (isCreate r) (create (newEntry r)) (destroy (le64 r 16))

@@ -1,0 +1,163 @@
+-- Paper 01, "The session table": what a slot, a guest and a key area hold, and which sessions can be.
+use Prim.Native.Nat.{ℕ, _*_, _/_, _%_, _^_}
+use mathlib.Core.Bool.{Bool, true, false, cond, not, _&&_, _||_}
+use mathlib.Core.List.{List, [], _++_, map}
+use lib.Dec.{eqb, leb}
+use lib.ListN.{getD, replicate, take, drop}
+use Rattle.model.specs.declared.Config.{Config}
+use Rattle.model.specs.declared.Guest.{Guest}
+use Rattle.model.specs.declared.Slot.{Slot}
+use Rattle.model.specs.declared.Table.{Table}
+use Rattle.model.specs.Bytes.{part, padded}
+use Rattle.model.specs.Algorithm.{cipher, hash, mac, aead, known, keyOk, resultOk}
+
+-- "A table holds 128 slots", and slot s owns key bytes 128·s to 128·s+127
+abbrev pub slotCount : ℕ
+slotCount = 128
+
+abbrev pub areaSize : ℕ
+areaSize = 128
+
+abbrev pub storeSize : ℕ
+storeSize = 16384
+
+-- "Session numbers run per guest from 1 to 4,294,967,295"
+abbrev pub lastNumber : ℕ
+lastNumber = 4294967295
+
+-- ---- slots and guests
+
+-- the table and the key store
+pub record World : Type 0 where
+  pub table : Table
+  pub store : List ℕ
+
+-- what a create fixes
+pub record Session : Type 0 where
+  pub service : ℕ
+  pub algo : ℕ
+  pub direction : ℕ
+  pub keylen : ℕ
+  -- of a hash or MAC result, or an AEAD tag
+  pub result : ℕ
+  pub aad : ℕ
+
+-- a slot is free, or holds session `number` of guest `owner`
+pub record Place : Type 0 where
+  pub held : Bool
+  pub owner : ℕ
+  pub number : ℕ
+  pub session : Session
+
+abbrev pub noSession : Session
+noSession = record { service = 0; algo = 0; direction = 0; keylen = 0; result = 0; aad = 0 }
+
+abbrev pub free : Place
+free = record { held = false; owner = 0; number = 0; session = noSession }
+
+abbrev pub holding : ℕ → ℕ → Session → Place
+holding g n x = record { held = true; owner = g; number = n; session = x }
+
+-- a place as the table keeps it, and back
+unfoldable pub slotOf : Place → Slot
+slotOf c = record {
+  number = c .number;
+  aad = c .session .aad;
+  held = c .held;
+  owner = c .owner;
+  service = c .session .service;
+  algo = c .session .algo;
+  direction = c .session .direction;
+  keylen = c .session .keylen;
+  result = c .session .result;
+}
+
+abbrev pub placeOf : Slot → Place
+placeOf c = record {
+  held = c .held;
+  owner = c .owner;
+  number = c .number;
+  session = record { service = c .service; algo = c .algo; direction = c .direction; keylen = c .keylen; result = c .result; aad = c .aad };
+}
+
+-- the slots of a table: nothing else reads them
+unfoldable pub slotsOf : Table → List Place
+slotsOf t = map placeOf (t .slots)
+
+-- slot i
+abbrev pub placeAt : Table → ℕ → Place
+placeAt t i = getD (slotsOf t) i free
+
+-- a guest that never attached, with 01's "reserve" and "cap"
+unfoldable pub newGuest : ℕ → ℕ → Guest
+newGuest reserve cap = record { attached = false; reserve = reserve; cap = cap; last = 0 }
+
+-- the record of guest g; one above 7 has none, and is as a guest that never attached and has no share
+abbrev pub guestAt : Table → ℕ → Guest
+guestAt t g = getD (t .guests) g (newGuest 0 0)
+
+-- ---- key areas
+
+-- the key area of slot i
+abbrev pub area : ℕ → List ℕ → List ℕ
+area i b = take areaSize (drop (areaSize * i) b)
+
+abbrev pub zeros : List ℕ
+zeros = replicate areaSize 0
+
+-- "a cipher or AEAD key starts at 0, a MAC key at 64"
+unfoldable pub keyStart : ℕ → ℕ
+keyStart service = cond (eqb service mac) 64 0
+
+-- the area that holds a key: all else is zero
+unfoldable pub keyArea : ℕ → List ℕ → List ℕ
+keyArea service key = cond (eqb service mac) (padded 64 [] ++ padded 64 key) (padded 64 key ++ padded 64 [])
+
+-- how long a session's key is; a hash has none, whatever its slot says
+unfoldable pub keyLen : Session → ℕ
+keyLen x = cond (eqb (x .service) hash) 0 (x .keylen)
+
+-- a session with the bytes of its key area
+pub record Entry : Type 0 where
+  pub session : Session
+  pub key : List ℕ
+
+-- the key of a session, in its area
+unfoldable pub keyOf : Entry → List ℕ
+keyOf e = part (e .key) (keyStart (e .session .service)) (keyLen (e .session))
+
+-- ---- which sessions can be
+
+-- bit n of a mask
+unfoldable pub bit : ℕ → ℕ → Bool
+bit mask n = eqb (mask / 2 ^ n % 2) 1
+
+-- every algorithm of the rules is below 32, so its bit stands in the low word
+abbrev pub maskOf : Config → ℕ → ℕ
+maskOf k service = cond (eqb service cipher) (k .ciphers) (cond (eqb service hash) (k .hashes) (cond (eqb service mac) (k .macs) (k .aeads)))
+
+-- 01's term "offered", of an algorithm: it stands in the rules and its bit and its service's bit are set
+unfoldable pub offers : Config → ℕ → ℕ → Bool
+offers k service algo = known service algo && bit (k .services) service && bit (maskOf k service) algo
+
+-- cipher and AEAD have a direction
+abbrev pub directed : ℕ → Bool
+directed service = eqb service cipher || eqb service aead
+
+-- 1 encrypt, 2 decrypt
+unfoldable pub directionOk : Session → Bool
+directionOk x = not (directed (x .service)) || eqb (x .direction) 1 || eqb (x .direction) 2
+
+-- "Cipher and AEAD keys obey max_cipher_key_len too, MAC keys max_auth_key_len"
+abbrev pub keyLimit : Config → ℕ → ℕ
+keyLimit k service = cond (eqb service mac) (k .authkey) (k .cipherkey)
+
+unfoldable pub lengthsOk : Config → Session → Bool
+lengthsOk k x =
+    keyOk (x .service) (x .algo) (x .keylen)
+    && (eqb (x .service) hash || leb (x .keylen) (keyLimit k (x .service)))
+    && resultOk (x .service) (x .algo) (x .result)
+
+-- the session passes step 4 of a create under this configuration
+unfoldable pub accepts : Config → Session → Bool
+accepts k x = offers k (x .service) (x .algo) && directionOk x && lengthsOk k x

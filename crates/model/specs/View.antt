@@ -1,0 +1,106 @@
+-- Paper 01, "The session table": whose slot is whose, which sessions are live, room for one more, and all that a guest's answers depend on.
+use Prim.Native.Nat.{ℕ, _+_, _-_}
+use mathlib.Core.Bool.{Bool, cond, not, _&&_, _||_}
+use mathlib.Core.Option.{Option, none, some}
+use lib.Dec.{eqb, leb, ltb}
+use lib.ListN.{length}
+use Rattle.lists.specs.Seek.{count, index}
+use Rattle.lists.specs.Sum.{sumTo, except}
+use Rattle.model.specs.declared.Config.{Config}
+use Rattle.model.specs.declared.Guest.{Guest}
+use Rattle.model.specs.declared.Table.{Table}
+use Rattle.model.specs.Session.{slotCount, storeSize, World, Session, Place, slotsOf, placeAt, guestAt, area, Entry, accepts}
+
+abbrev pub isHeld : Place → Bool
+isHeld c = c .held
+
+abbrev pub isFree : Place → Bool
+isFree c = not (c .held)
+
+-- the slot names guest g as owner
+abbrev pub owned : ℕ → Place → Bool
+owned g c = c .held && eqb (c .owner) g
+
+-- number n was given to the guest with record r, and the slot's other fields pass step 4
+abbrev pub given : Config → Guest → ℕ → Place → Bool
+given k r n c = r .attached && ltb 0 n && leb n (r .last) && accepts k (c .session)
+
+-- 01's term "live": the slot matches session number n of guest g
+abbrev pub live : Table → ℕ → ℕ → Place → Bool
+live t g n c = owned g c && eqb (c .number) n && given (t .config) (guestAt t g) n c
+
+-- ---- places; the number of slots where there is none
+
+-- "the lowest-numbered free slot"
+abbrev pub freeAt : Table → ℕ
+freeAt t = index isFree (slotsOf t)
+
+-- "Of two that match, the lower slot counts"
+abbrev pub liveAt : Table → ℕ → ℕ → ℕ
+liveAt t g n = index (live t g n) (slotsOf t)
+
+-- ---- room
+
+-- 01's term "holds": counted from the slots naming the guest as owner, matching or not
+abbrev pub holds : Table → ℕ → ℕ
+holds t g = count (owned g) (slotsOf t)
+
+-- all held slots
+abbrev pub total : Table → ℕ
+total t = count isHeld (slotsOf t)
+
+-- a guest's reserve minus what it holds, not below 0, attached or not
+abbrev pub unmet : Table → ℕ → ℕ
+unmet t g = guestAt t g .reserve - holds t g
+
+-- the other guests' unmet reserves
+abbrev pub owed : Table → ℕ → ℕ
+owed t g = sumTo 8 (except g (unmet t))
+
+-- a create of guest g is NOSPC: 01's terms "cap" and "reserve" are the two fields of the guest's record
+unfoldable pub full : Table → ℕ → Bool
+full t g =
+    leb (guestAt t g .cap) (holds t g)
+    || leb (guestAt t g .reserve) (holds t g) && leb slotCount (total t + owed t g)
+    || eqb (count isFree (slotsOf t)) 0
+
+-- ---- what a guest sees: all that its answers depend on, but for the room
+
+-- slot i's session with its key area
+abbrev pub entryAt : World → ℕ → Entry
+entryAt w i = record { session = placeAt (w .table) i .session; key = area i (w .store) }
+
+-- the live session n of guest g
+unfoldable pub find : World → ℕ → ℕ → Option Entry
+find w g n = cond (ltb (liveAt (w .table) g n) (length (slotsOf (w .table)))) (some (entryAt w (liveAt (w .table) g n))) none
+
+pub record View : Type 0 where
+  pub guest : Guest
+  pub holds : ℕ
+  pub find : ℕ → Option Entry
+
+abbrev pub view : World → ℕ → View
+view w g = record { guest = guestAt (w .table) g; holds = holds (w .table) g; find = find w g }
+
+-- a live session, without its key
+abbrev pub sessionIn : Option Entry → Option Session
+sessionIn none = none
+sessionIn (some e) = some (e .session)
+
+-- what stays as set-up left it: the configuration, and the length of the key store
+pub record Setting : Type 0 where
+  pub config : Config
+  pub store : ℕ
+
+abbrev pub setting : World → Setting
+setting w = record { config = w .table .config; store = length (w .store) }
+
+-- ---- tests that many calls share
+
+-- the key store has its 16,384 bytes
+abbrev pub sized : ℕ → Bool
+sized n = eqb n storeSize
+
+-- guest g, whose record is r, is at most 7 and attached
+unfoldable pub present : ℕ → Guest → Bool
+present g r = ltb g 8 && r .attached

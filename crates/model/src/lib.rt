@@ -1,0 +1,45 @@
+// The session table, by value. What is right of it stands in specs/.
+
+// Document 001's virtio_crypto_config, field by field.
+pub struct Config {
+    pub status: u32,
+    pub queues: u32,
+    pub services: u32,
+    pub ciphers: u32,
+    pub ciphers2: u32,
+    pub hashes: u32,
+    pub macs: u32,
+    pub macs2: u32,
+    pub aeads: u32,
+    pub cipherkey: u32,
+    pub authkey: u32,
+    pub reserved: u32,
+    pub size: u64,
+}
+
+// A session, or all zero where the slot is free. `result` is a hash or MAC result, or an AEAD tag.
+pub struct Slot {
+    pub number: u64,
+    pub aad: u32,
+    pub held: bool,
+    pub owner: u8,
+    pub service: u8,
+    pub algo: u8,
+    pub direction: u8,
+    pub keylen: u8,
+    pub result: u8,
+}
+
+// `last` is the last session number given since the guest's last attach.
+pub struct Guest {
+    pub attached: bool,
+    pub reserve: u8,
+    pub cap: u8,
+    pub last: u64,
+}
+
+pub struct Table {
+    pub config: Config,
+    pub slots: [Slot; 128],
+    pub guests: [Guest; 8],
+}
