@@ -15,44 +15,71 @@ use Rattle.model.specs.declared.Table.{Table}
 use Rattle.model.specs.Bytes.{le32}
 use Rattle.model.specs.Answer.{ok, Check, firstFail, granted}
 use Rattle.model.specs.Algorithm.{cipher}
-use Rattle.model.specs.Session.{World, Session, free, slotsOf, placeAt, guestAt, directed}
-use Rattle.model.specs.View.{live, liveAt, entryAt, find, sessionIn, present, setting, view, full}
+use Rattle.model.specs.Session.{World, Session, Place, free, slotsOf, placeAt, guestAt, directed}
+use Rattle.model.specs.View.{owned, live, liveAt, entryAt, find, sessionIn, present, setting, view, full}
 use Rattle.model.specs.Control.{service}
 use Rattle.model.specs.Data.{number, flag, direction, start, lengths, dataChecks}
-use Rattle.model.specs.Device.{Request, Attach, Control, Admit, Part, KeyAnswer, Key, Finish, checksOf, checks, outcome, reply, answered}
-use Rattle.laws.specs.Judge.{Passed, answers, answers-of, passed-first, first-failed, holds-at}
-use Rattle.laws.specs.Effect.{checks-passed}
-use Rattle.demands.specs.Statement.{success, Demand2, named, Acceptable}
+use Rattle.model.specs.Device.{Request, Attach, Control, Admit, Part, KeyAnswer, Key, Finish, checksOf, checks, outcome, reply}
+use Rattle.model.specs.Device as Device
+use Rattle.model.specs.Setup.{setUpChecks, setUpAnswer}
+use Rattle.laws.specs.Judge.{Passed, answers, answers-of, passed-first, first-passed, first-failed, holds-at}
+use Rattle.demands.specs.Statement.{success, Answered, Demand2, SetUpAnswered, named, Acceptable}
 
 -- a pair, for a list of facts
 infixr 4 _▸_
 _▸_ : {A B : Type 0} → A → B → A × B
 a ▸ b = (a, b)
 
--- ---- every call
+-- ---- the answer of checks in order
 
 -- a check that fails does not answer 0
 answers-at : (cs ds : List Check) (b : Bool) (n : ℕ) → answers (cs ++ (b, n) ∷ ds) ≡ true → eqb n ok ≡ false
 answers-at [] ds b n h = not-true (eqb n ok) (and-true (not (eqb n ok)) (answers ds) h .0)
 answers-at (c ∷ cs) ds b n h = answers-at cs ds b n (and-true (not (eqb (c .1) ok)) (answers (cs ++ (b, n) ∷ ds)) h .1)
 
-answers-all : (w : World) (g : ℕ) (q : Request) → answers (checks w g q) ≡ true
-unfolding checks
-answers-all w g q = answers-of (setting w) g (view w g) (full (w .table) g) q
+pub answered : (cs : List Check) (answer success : ℕ) → answers cs ≡ true → answer ≡ cond (granted (firstFail cs)) success (firstFail cs) → Answered cs answer success
+answered cs answer success h e = record { all = all; first = first; only = only }
+  where
+    n : ℕ
+    n = firstFail cs
+
+    all : Passed cs → answer ≡ success
+    all p = e ∙ rw (eq-eqb n ok (passed-first cs p))
+
+    first : (before after : List Check) (m : ℕ) → cs ≡ before ++ (false, m) ∷ after → Passed before → answer ≡ m
+    first before after m q p =
+        let f : n ≡ m = ap firstFail q ∙ first-failed before after m p in
+        let z : eqb m ok ≡ false = answers-at before after false m (sym (ap answers q) ∙ h) in
+        e ∙ ap (λ k. cond (granted k) success k) f ∙ rw z
+
+    only : answer ≡ ok → Passed cs
+    only q = first-passed cs h (go (granted n) refl (sym e ∙ q))
+      where
+        go : (b : Bool) → granted n ≡ b → cond b success n ≡ ok → n ≡ ok
+        go true h z = eqb-true n ok h
+        go false h z = z
+
+-- a number that is 0 or not
+zero-or : (n : ℕ) → n ≡ cond (granted n) ok n
+zero-or n = go (granted n) refl
+  where
+    go : (b : Bool) → granted n ≡ b → n ≡ cond b ok n
+    go true e = eqb-true n ok e
+    go false e = refl
+
+-- ---- set-up, and every call
+
+pub set-up-answered : (config reserves caps store : List ℕ) → SetUpAnswered config reserves caps store
+unfolding setUpAnswer
+set-up-answered config reserves caps store =
+    answered (setUpChecks config reserves caps store) (firstFail (setUpChecks config reserves caps store)) ok refl (zero-or (firstFail (setUpChecks config reserves caps store)))
 
 -- the answer, by the number n of the checks
 reply-answer : (w : World) (g : ℕ) (q : Request) → reply w g q .answer ≡ cond (granted (firstFail (checks w g q))) (success q) (firstFail (checks w g q))
 unfolding reply outcome
 reply-answer w g q = by q
   where
-    zero-or : (n : ℕ) → n ≡ cond (granted n) ok n
-    zero-or n = go (granted n) refl
-      where
-        go : (b : Bool) → granted n ≡ b → n ≡ cond b ok n
-        go true e = eqb-true n ok e
-        go false e = refl
-
-    finish : (b : Bool) (n s : ℕ) (c d : List ℕ) → cond b (answered s c) (answered n d) .answer ≡ cond b s n
+    finish : (b : Bool) (n s : ℕ) (c d : List ℕ) → cond b (Device.answered s c) (Device.answered n d) .answer ≡ cond b s n
     finish true n s c d = refl
     finish false n s c d = refl
 
@@ -66,26 +93,8 @@ reply-answer w g q = by q
     by (Finish op verdict b) = finish (granted (firstFail (checks w g (Finish op verdict b)))) _ _ _ _
 
 pub demand2 : (w : World) (g : ℕ) (q : Request) → Demand2 w g q
-demand2 w g q = record { all = all; first = first; only = only }
-  where
-    n : ℕ
-    n = firstFail (checks w g q)
-
-    all : Passed (checks w g q) → reply w g q .answer ≡ success q
-    all p = reply-answer w g q ∙ rw (eq-eqb n ok (passed-first (checks w g q) p))
-
-    first : (before after : List Check) (m : ℕ) → checks w g q ≡ before ++ (false, m) ∷ after → Passed before → reply w g q .answer ≡ m
-    first before after m e p =
-        let f : n ≡ m = ap firstFail e ∙ first-failed before after m p in
-        let z : eqb m ok ≡ false = answers-at before after false m (sym (ap answers e) ∙ answers-all w g q) in
-        reply-answer w g q ∙ ap (λ k. cond (granted k) (success q) k) f ∙ rw z
-
-    only : reply w g q .answer ≡ ok → Passed (checks w g q)
-    only e = checks-passed w g q (go (granted n) refl (sym (reply-answer w g q) ∙ e))
-      where
-        go : (b : Bool) → granted n ≡ b → cond b (success q) n ≡ ok → n ≡ ok
-        go true h z = eqb-true n ok h
-        go false h z = z
+unfolding checks
+demand2 w g q = answered (checks w g q) (reply w g q .answer) (success q) (answers-of (setting w) g (view w g) (full (w .table) g) q) (reply-answer w g q)
 
 -- ---- the session that a data request names
 
@@ -123,6 +132,10 @@ module _ (w : World) (g : ℕ) (r b : List ℕ) where
   unfolding checks checksOf find
   admit-checks = refl
 
+  -- a live session's slot names its guest
+  owned-of : (c : Place) → live t g (number r) c ≡ true → owned g c ≡ true
+  owned-of c h = and-true (owned g c) (eqb (c .number) (number r)) (and-true (owned g c && eqb (c .number) (number r)) _ h .0) .0
+
   passed-acceptable : (s : Bool) → ltb at (length (slotsOf t)) ≡ s → Passed (checksBy s) → Acceptable t g r b
   unfolding present
   passed-acceptable false e p = absurd (false-true (holds-at (checksBy false) 6 p))
@@ -138,6 +151,7 @@ module _ (w : World) (g : ℕ) (r b : List ℕ) where
         mode = eqb-true (flag r) 1 (holds-at (checksBy true) 5 p);
         type = λ c. eqb-true (le32 r 64) 1 (implied (eqb (service r) cipher) (eqb (le32 r 64) 1) (holds-at (checksBy true) 8 p) (eq-eqb (service r) cipher c));
         alive = found-live t g (number r) (ltb-true at (length (slotsOf t)) e);
+        own = eqb-true (named t g r .owner) g (and-true (named t g r .held) (eqb (named t g r .owner) g) (owned-of (named t g r) (found-live t g (number r) (ltb-true at (length (slotsOf t)) e))) .1);
         serves = eqb-true (x .service) (service r) (u .0);
         directs = λ d. eqb-true (x .direction) (direction r) (implied (directed (service r)) (eqb (x .direction) (direction r)) (u .1) d);
         readable = eqb-true (length r) _ (v .0);

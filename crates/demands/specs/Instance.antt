@@ -9,11 +9,11 @@ use native.Mathlib.Omega.{arith}
 use lib.Dec.{eqb, ltb}
 use borrow.Author.Tests.{ltb-true}
 use lib.ListN.{length, length-append}
-use Rattle.lists.specs.Test.{false-true, and-true}
+use Rattle.lists.specs.Test.{false-true, and-true, both-ways}
 use Rattle.model.specs.Bytes.{le64, padded}
 use Rattle.model.specs.Answer.{err}
 use Rattle.model.specs.Algorithm.{mac}
-use Rattle.model.specs.Session.{areaSize, lastNumber, Entry, keyArea, accepts}
+use Rattle.model.specs.Session.{areaSize, lastNumber, keyArea, areaOf, Entry, accepts}
 use Rattle.model.specs.View.{Setting, View, present}
 use Rattle.model.specs.Act.{Act, pass, attach, create, destroy, judge}
 use Rattle.model.specs.Control.{service, isCreate, asked, newEntry, formChecks, numbersLeft, createChecks, destroyChecks, controlChecks, ofService}
@@ -53,13 +53,13 @@ length-padded zero k = refl
 length-padded (suc n) [] = omega (arith, length-padded n [])
 length-padded (suc n) (x ∷ k) = omega (arith, length-padded n k)
 
-pub length-keyArea : (s : ℕ) (key : List ℕ) → length (keyArea s key) ≡ areaSize
+length-keyArea : (front back : List ℕ) → length (keyArea front back) ≡ areaSize
 unfolding keyArea
-length-keyArea s key = go (eqb s mac)
-  where
-    go : (b : Bool) → length (cond b (padded 64 [] ++ padded 64 key) (padded 64 key ++ padded 64 [])) ≡ areaSize
-    go true = length-append (padded 64 []) (padded 64 key) ∙ omega (arith, length-padded 64 [], length-padded 64 key)
-    go false = length-append (padded 64 key) (padded 64 []) ∙ omega (arith, length-padded 64 [], length-padded 64 key)
+length-keyArea front back = length-append (padded 64 front) (padded 64 back) ∙ omega (arith, length-padded 64 front, length-padded 64 back)
+
+length-areaOf : (s : ℕ) (key : List ℕ) → length (areaOf s key) ≡ areaSize
+unfolding areaOf
+length-areaOf s key = both-ways (λ (a : List ℕ). length a ≡ areaSize) (eqb s mac) (keyArea [] key) (keyArea key []) (length-keyArea [] key) (length-keyArea key [])
 
 -- ---- each act is lawful
 
@@ -75,7 +75,7 @@ create-lawful k g v r w p = record {
   left = ltb-true (v .guest .last) lastNumber (holds-at (createChecks k g v false r w) 13 p);
   sound = record {
     accepted = rw (holds-at (createChecks k g v false r w) 8 p, holds-at (createChecks k g v false r w) 10 p, holds-at (createChecks k g v false r w) 11 p);
-    whole = length-keyArea (asked r .service) _;
+    whole = length-areaOf (asked r .service) _;
   };
 }
 

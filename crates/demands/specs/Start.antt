@@ -45,12 +45,12 @@ within r c e g h =
     leb-true (getD r g 0) (getD c g 0) (and-true (leb (getD r g 0) (getD c g 0)) (leb (getD c g 0) slotCount) b .0)
 
 -- cells of free slots
-free-cells : (l : List Place) (b : List ℕ) → l ≡ replicate slotCount free → (length (cells cellFrom l b) ≡ slotCount) × All (λ c. c .held ≡ false) (cells cellFrom l b)
+free-cells : (l : List Place) (b : List ℕ) → l ≡ replicate slotCount free → (length (cells cellFrom l b) ≡ slotCount) × All (λ c. c .place .held ≡ false) (cells cellFrom l b)
 free-cells l b e =
-    subst (λ (m : List Place). (length (cells cellFrom m b) ≡ slotCount) × All (λ c. c .held ≡ false) (cells cellFrom m b)) (sym e) (
+    subst (λ (m : List Place). (length (cells cellFrom m b) ≡ slotCount) × All (λ c. c .place .held ≡ false) (cells cellFrom m b)) (sym e) (
       length-cells cellFrom (replicate slotCount free) b ∙ length-replicate slotCount free,
-      All-cells cellFrom (λ c. c .held ≡ false) (replicate slotCount free) b
-          (All-replicate (λ c. (a : List ℕ) → cellFrom c a .held ≡ false) free (λ a. refl) slotCount),
+      All-cells cellFrom (λ c. c .place .held ≡ false) (replicate slotCount free) b
+          (All-replicate (λ c. (a : List ℕ) → c .held ≡ false) free (λ a. refl) slotCount),
     )
 
 fresh-table : (k : Config) (reserves caps b : List ℕ) → sharesOk reserves caps ≡ true → Fresh (stateOf (record { table = freshTable k reserves caps; store = b }))
@@ -70,7 +70,7 @@ fresh-table k r c b e = record {
     l : List Guest
     l = freshTable k r c .guests
 
-    z : (length (cells cellFrom (slotsOf (freshTable k r c)) b) ≡ slotCount) × All (λ c. c .held ≡ false) (cells cellFrom (slotsOf (freshTable k r c)) b)
+    z : (length (cells cellFrom (slotsOf (freshTable k r c)) b) ≡ slotCount) × All (λ c. c .place .held ≡ false) (cells cellFrom (slotsOf (freshTable k r c)) b)
     z = free-cells (slotsOf (freshTable k r c)) b (slots-fresh k r c)
 
     le : (g : ℕ) → g < 8 → getD r g 0 ≤ getD c g 0

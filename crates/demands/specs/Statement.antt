@@ -13,7 +13,7 @@ use Rattle.model.specs.Lens.{orIn}
 use Rattle.model.specs.Algorithm.{cipher}
 use Rattle.model.specs.Session.{slotCount, lastNumber, World, Place, placeAt, guestAt, directed}
 use Rattle.model.specs.View.{live, liveAt, holds, total}
-use Rattle.model.specs.Setup.{configOf, freshTable, setUpAnswer, setUp}
+use Rattle.model.specs.Setup.{configOf, freshTable, setUpChecks, setUpAnswer, setUp}
 use Rattle.model.specs.Control.{opcode, service}
 use Rattle.model.specs.Data.{number, flag, operationOk, direction, start, lengths, fits, status}
 use Rattle.model.specs.Device.{Request, Attach, Control, Admit, Part, KeyAnswer, Key, Finish, checks, reply, next}
@@ -81,13 +81,20 @@ success (KeyAnswer n) = ok
 success (Key n) = ok
 success (Finish op verdict b) = status op verdict
 
-pub record Demand2 (w : World) (g : ℕ) (q : Request) : Type 0 where
+-- the answer of checks in order, where `success` is that of a call whose checks all hold
+pub record Answered (cs : List Check) (answer success : ℕ) : Type 0 where
   -- every check holds
-  pub all : Passed (checks w g q) → reply w g q .answer ≡ success q
+  pub all : Passed cs → answer ≡ success
   -- those before it hold, and this one does not: its number answers
-  pub first : (before after : List Check) (n : ℕ) → checks w g q ≡ before ++ (false, n) ∷ after → Passed before → reply w g q .answer ≡ n
+  pub first : (before after : List Check) (n : ℕ) → cs ≡ before ++ (false, n) ∷ after → Passed before → answer ≡ n
   -- an answer 0 tells that every check holds
-  pub only : reply w g q .answer ≡ ok → Passed (checks w g q)
+  pub only : answer ≡ ok → Passed cs
+
+abbrev pub Demand2 : World → ℕ → Request → Type 0
+Demand2 w g q = Answered (checks w g q) (reply w g q .answer) (success q)
+
+abbrev pub SetUpAnswered : List ℕ → List ℕ → List ℕ → List ℕ → Type 0
+SetUpAnswered config reserves caps store = Answered (setUpChecks config reserves caps store) (setUpAnswer config reserves caps store) ok
 
 -- the slot of the session that a data request names
 abbrev pub named : Table → ℕ → List ℕ → Place
@@ -103,8 +110,10 @@ pub record Acceptable (t : Table) (g : ℕ) (r b : List ℕ) : Type 0 where
   -- its mode and type those that 01 takes
   pub mode : flag r ≡ 1
   pub type : service r ≡ cipher → le32 r 64 ≡ 1
-  -- its session live and its own guest's
+  -- its session live,
   pub alive : live t g (number r) (named t g r) ≡ true
+  -- its own guest's,
+  pub own : named t g r .owner ≡ g
   -- of the matching service and direction
   pub serves : named t g r .session .service ≡ service r
   pub directs : directed (service r) ≡ true → named t g r .session .direction ≡ direction r

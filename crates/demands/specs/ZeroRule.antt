@@ -15,7 +15,7 @@ use Rattle.lists.specs.Test.{both-ways}
 use Rattle.model.specs.Bytes.{part, padded, le64}
 use Rattle.model.specs.Answer.{ok, Check}
 use Rattle.model.specs.Algorithm.{cipher, hash, mac}
-use Rattle.model.specs.Session.{areaSize, storeSize, World, Session, Place, free, slotsOf, placeAt, area, keyStart, keyArea, keyLen}
+use Rattle.model.specs.Session.{areaSize, storeSize, World, Session, Place, free, slotsOf, placeAt, area, keyStart, keyArea, areaOf, keyLen}
 use Rattle.model.specs.View.{Setting, View, setting, live}
 use Rattle.model.specs.Act.{Act, refuse, pass, attach, create, destroy, judge}
 use Rattle.model.specs.Setup.{setUp, setUpAnswer, freshTable, configOf}
@@ -53,7 +53,8 @@ getD-past (x ∷ p) q zero h = absurd (omega arith)
 getD-past (x ∷ p) q (suc n) h = getD-past p q n (omega arith) ∙ ap (λ (m : ℕ). getD q m 0) (omega arith)
 
 -- two halves of an area, each zero behind its key
-halves : (front back : List ℕ) (j : ℕ) → ((j < 64) ⊎ (64 + length back ≤ j)) → ((64 ≤ j) ⊎ (length front ≤ j)) → getD (padded 64 front ++ padded 64 back) j 0 ≡ 0
+halves : (front back : List ℕ) (j : ℕ) → ((j < 64) ⊎ (64 + length back ≤ j)) → ((64 ≤ j) ⊎ (length front ≤ j)) → getD (keyArea front back) j 0 ≡ 0
+unfolding keyArea
 halves front back j (inl a) (inl b) = absurd (omega arith)
 halves front back j (inl a) (inr b) = List·getD-append (padded 64 front) (padded 64 back) 0 j (omega (arith, length-padded 64 front)) ∙ getD-padded 64 front j b
 halves front back j (inr a) b =
@@ -75,9 +76,9 @@ outside s n j e = go (leb s j) refl e
     go true q e = inr (ltb-false j (s + n) e)
     go false q e = inl (leb-false s j q)
 
-keyArea-zero : (s n : ℕ) (key : List ℕ) (j : ℕ) → length key ≤ n → leb (keyStart s) j && ltb j (keyStart s + n) ≡ false → getD (keyArea s key) j 0 ≡ 0
-unfolding keyStart keyArea
-keyArea-zero s n key j h = go (eqb s mac)
+areaOf-zero : (s n : ℕ) (key : List ℕ) (j : ℕ) → length key ≤ n → leb (keyStart s) j && ltb j (keyStart s + n) ≡ false → getD (areaOf s key) j 0 ≡ 0
+unfolding keyStart areaOf
+areaOf-zero s n key j h = go (eqb s mac)
   where
     widen : (j < 64) ⊎ (64 + n ≤ j) → (j < 64) ⊎ (64 + length key ≤ j)
     widen (inl a) = inl a
@@ -91,14 +92,14 @@ keyArea-zero s n key j h = go (eqb s mac)
     other (inl a) = inl a
     other (inr a) = inr (omega arith)
 
-    go : (b : Bool) → leb (cond b 64 0) j && ltb j (cond b 64 0 + n) ≡ false → getD (cond b (padded 64 [] ++ padded 64 key) (padded 64 key ++ padded 64 [])) j 0 ≡ 0
+    go : (b : Bool) → leb (cond b 64 0) j && ltb j (cond b 64 0 + n) ≡ false → getD (cond b (keyArea [] key) (keyArea key [])) j 0 ≡ 0
     go true e = halves [] key j (widen (outside 64 n j e)) (inr (omega arith))
     go false e = halves key [] j (other (below j 64)) (front (outside 0 n j e))
 
 -- ---- the fact of each slot with its area
 
 abbrev Clean : Cell → Type 0
-Clean c = (j : ℕ) → j < areaSize → c .held && keyByte (c .entry .session) j ≡ false → getD (c .entry .key) j 0 ≡ 0
+Clean c = (j : ℕ) → j < areaSize → c .place .held && keyByte (c .place .session) j ≡ false → getD (c .key) j 0 ≡ 0
 
 clean-none : Clean noCell
 clean-none j h e = getD-replicate areaSize j 0 0 h
@@ -116,7 +117,7 @@ asked-key r =
 
 clean-new : (r : List ℕ) (g n : ℕ) → Clean (cellOf g n (newEntry r))
 unfolding newEntry keyByte part
-clean-new r g n j h e = keyArea-zero (asked r .service) (keyLen (asked r)) _ j (rw (asked-key r) (simp length-take (omega arith))) e
+clean-new r g n j h e = areaOf-zero (asked r .service) (keyLen (asked r)) _ j (rw (asked-key r) (simp length-take (omega arith))) e
 
 fills-judge : (cs : List Check) (a : Act) → Fills Clean a → Fills Clean (judge cs a)
 fills-judge [] a h = h

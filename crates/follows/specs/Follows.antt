@@ -27,7 +27,7 @@ use Rattle.follows.specs.Areas.{cells, set-cells, getD-cells, wipe-cells
 
 -- a slot with its area
 abbrev pub cellFrom : Place → List ℕ → Cell
-cellFrom c a = record { held = c .held; owner = c .owner; number = c .number; entry = record { session = c .session; key = a } }
+cellFrom c a = record { place = c; key = a }
 
 abbrev pub stateOf : World → State
 stateOf w = record { setting = setting w; cells = cells cellFrom (slotsOf (w .table)) (w .store); guests = w .table .guests }

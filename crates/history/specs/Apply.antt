@@ -8,7 +8,7 @@ use lib.Dec.{eqb}
 use lib.ListN.{set}
 use Rattle.lists.specs.Seek.{swap}
 use Rattle.model.specs.Answer.{nospc}
-use Rattle.model.specs.Session.{Entry}
+use Rattle.model.specs.Session.{holding, Entry}
 use Rattle.model.specs.View.{View}
 use Rattle.model.specs.Act.{Act, refuse, pass, attach, create, destroy, restarted, numbered}
 use Rattle.history.specs.Cells.{Cell, State, noCell, owns, matches, isFree, guestOf}
@@ -25,7 +25,7 @@ abbrev pub release : ℕ → Cell → Cell
 release g c = cond (owns g c) noCell c
 
 abbrev pub cellOf : ℕ → ℕ → Entry → Cell
-cellOf g n e = record { held = true; owner = g; number = n; entry = e }
+cellOf g n e = record { place = holding g n (e .session); key = e .key }
 
 abbrev pub newCell : State → ℕ → Entry → Cell
 newCell s g e = cellOf g (suc (guestOf s g .last)) e

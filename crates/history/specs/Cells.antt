@@ -9,15 +9,14 @@ use lib.ListN.{getD}
 use Rattle.lists.specs.Seek.{count, first}
 use Rattle.lists.specs.Sum.{sumTo, except}
 use Rattle.model.specs.declared.Guest.{Guest}
-use Rattle.model.specs.Session.{slotCount, Entry, noSession, newGuest, zeros, accepts}
-use Rattle.model.specs.View.{View, Setting, sized}
+use Rattle.model.specs.Session.{slotCount, Place, free, newGuest, zeros, Entry}
+use Rattle.model.specs.View as Model
+use Rattle.model.specs.View.{View, Setting, sized, owned, given}
 
 -- a slot with its key area
 pub record Cell : Type 0 where
-  pub held : Bool
-  pub owner : ℕ
-  pub number : ℕ
-  pub entry : Entry
+  pub place : Place
+  pub key : List ℕ
 
 pub record State : Type 0 where
   pub setting : Setting
@@ -25,33 +24,29 @@ pub record State : Type 0 where
   pub guests : List Guest
 
 abbrev pub noCell : Cell
-noCell = record { held = false; owner = 0; number = 0; entry = record { session = noSession; key = zeros } }
+noCell = record { place = free; key = zeros }
 
 -- the key store has its size
 abbrev pub stored : Setting → Bool
 stored k = sized (k .store)
 
--- ---- tests on a slot
+-- ---- the definitions' tests on a slot
 
 abbrev pub isHeld : Cell → Bool
-isHeld c = c .held
+isHeld c = Model.isHeld (c .place)
 
 abbrev pub isFree : Cell → Bool
-isFree c = not (c .held)
+isFree c = Model.isFree (c .place)
 
 abbrev pub owns : ℕ → Cell → Bool
-owns g c = c .held && eqb (c .owner) g
+owns g c = owned g (c .place)
 
 abbrev pub named : ℕ → ℕ → Cell → Bool
-named g n c = owns g c && eqb (c .number) n
-
--- the number was given to the guest with record r, and the session can be
-abbrev pub given : Setting → Guest → ℕ → Cell → Bool
-given k r n c = r .attached && ltb 0 n && leb n (r .last) && accepts (k .config) (c .entry .session)
+named g n c = owns g c && eqb (c .place .number) n
 
 -- the slot is the live session n of guest g, whose record is r
 abbrev pub matches : Setting → Guest → ℕ → ℕ → Cell → Bool
-matches k r g n c = named g n c && given k r n c
+matches k r g n c = named g n c && given (k .config) r n (c .place)
 
 -- ---- room
 
@@ -88,7 +83,7 @@ full s g = atCap s g || crowded s g || noneFree s
 
 abbrev pub entryOf : Option Cell → Option Entry
 entryOf none = none
-entryOf (some c) = some (c .entry)
+entryOf (some c) = some (record { session = c .place .session; key = c .key })
 
 abbrev pub viewIn : Setting → Guest → List Cell → ℕ → View
 viewIn k r l g = record { guest = r; holds = count (owns g) l; find = λ n. entryOf (first (matches k r g n) l) }

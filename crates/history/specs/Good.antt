@@ -13,7 +13,8 @@ use lib.Seq.{getD-set-same, getD-set-other}
 use Rattle.lists.specs.Seek.{count, first, All, All-weaken, first-same, count-none}
 use Rattle.model.specs.declared.Guest.{Guest}
 use Rattle.model.specs.View.{Setting}
-use Rattle.history.specs.Cells.{Cell, noCell, owns, named, given, matches}
+use Rattle.history.specs.Cells.{Cell, noCell, owns, named, matches}
+use Rattle.model.specs.View.{given}
 use Rattle.model.specs.Session.{newGuest, accepts}
 use Rattle.history.specs.Apply.{release}
 use Rattle.model.specs.Act.{restarted, numbered}
@@ -22,26 +23,26 @@ use Rattle.lists.specs.Test.{false-true, same, not-true, and-true}
 -- a live session of the guest whose record is r
 pub record Live (k : Setting) (r : Guest) (c : Cell) : Type 0 where
   pub attached : r .attached ≡ true
-  pub low : 0 < c .number
-  pub high : c .number ≤ r .last
-  pub sound : accepts (k .config) (c .entry .session) ≡ true
+  pub low : 0 < c .place .number
+  pub high : c .place .number ≤ r .last
+  pub sound : accepts (k .config) (c .place .session) ≡ true
 
 abbrev pub Good : Setting → List Guest → Cell → Type 0
-Good k l c = c .held ≡ true → Live k (getD l (c .owner) (newGuest 0 0)) c
+Good k l c = c .place .held ≡ true → Live k (getD l (c .place .owner) (newGuest 0 0)) c
 
 -- ---- what the tests say
 
-pub named-true : (g n : ℕ) (c : Cell) → named g n c ≡ true → (c .held ≡ true) × (c .owner ≡ g) × (c .number ≡ n)
+pub named-true : (g n : ℕ) (c : Cell) → named g n c ≡ true → (c .place .held ≡ true) × (c .place .owner ≡ g) × (c .place .number ≡ n)
 named-true g n c e =
-    let a = and-true (owns g c) (eqb (c .number) n) e in
-    let b = and-true (c .held) (eqb (c .owner) g) (a .0) in
-    (b .0, eqb-true (c .owner) g (b .1), eqb-true (c .number) n (a .1))
+    let a = and-true (owns g c) (eqb (c .place .number) n) e in
+    let b = and-true (c .place .held) (eqb (c .place .owner) g) (a .0) in
+    (b .0, eqb-true (c .place .owner) g (b .1), eqb-true (c .place .number) n (a .1))
 
-pub free-owns : (g : ℕ) (c : Cell) → c .held ≡ false → owns g c ≡ false
+pub free-owns : (g : ℕ) (c : Cell) → c .place .held ≡ false → owns g c ≡ false
 free-owns g c e = rw e
 
-pub other-owns : (g : ℕ) (c : Cell) → (c .owner ≡ g → ⊥) → owns g c ≡ false
-other-owns g c h = not-true (owns g c) (λ e. h (eqb-true (c .owner) g (and-true (c .held) (eqb (c .owner) g) e .1)))
+pub other-owns : (g : ℕ) (c : Cell) → (c .place .owner ≡ g → ⊥) → owns g c ≡ false
+other-owns g c h = not-true (owns g c) (λ e. h (eqb-true (c .place .owner) g (and-true (c .place .held) (eqb (c .place .owner) g) e .1)))
 
 -- a slot that g does not own matches none of its numbers
 pub unowned-matches : (k : Setting) (r : Guest) (g n : ℕ) (c : Cell) → owns g c ≡ false → matches k r g n c ≡ false
@@ -54,12 +55,12 @@ unowned-named g n c e = rw e
 pub matches-named : (k : Setting) (l : List Guest) (g n : ℕ) (c : Cell) → Good k l c → matches k (getD l g (newGuest 0 0)) g n c ≡ named g n c
 matches-named k l g n c h = go (named g n c) refl
   where
-    go : (b : Bool) → named g n c ≡ b → b && given k (getD l g (newGuest 0 0)) n c ≡ b
+    go : (b : Bool) → named g n c ≡ b → b && given (k .config) (getD l g (newGuest 0 0)) n (c .place) ≡ b
     go false e = refl
     go true e =
         let t = named-true g n c e in
         let v = h (t .0) in
-        rw (← t .2, ← t .1) (rw (v .attached, lt-ltb 0 (c .number) (v .low), le-leb (c .number) (getD l (c .owner) (newGuest 0 0) .last) (v .high), v .sound))
+        rw (← t .2, ← t .1) (rw (v .attached, lt-ltb 0 (c .place .number) (v .low), le-leb (c .place .number) (getD l (c .place .owner) (newGuest 0 0) .last) (v .high), v .sound))
 
 pub first-named : (k : Setting) (l : List Guest) (g n : ℕ) (cs : List Cell) → All (Good k l) cs → first (matches k (getD l g (newGuest 0 0)) g n) cs ≡ first (named g n) cs
 first-named k l g n cs a =
@@ -73,33 +74,33 @@ fresh-number k l g n cs h a = count-none (named g n) cs (All-weaken (Good k l) (
     unused : (c : Cell) → Good k l c → named g n c ≡ false
     unused c d = not-true (named g n c) (λ e.
         let t = named-true g n c e in
-        let v : c .number ≤ getD l (c .owner) (newGuest 0 0) .last = d (t .0) .high in
-        let w : c .number ≤ getD l g (newGuest 0 0) .last = rw (t .1) at v in
+        let v : c .place .number ≤ getD l (c .place .owner) (newGuest 0 0) .last = d (t .0) .high in
+        let w : c .place .number ≤ getD l g (newGuest 0 0) .last = rw (t .1) at v in
         omega (arith, t .2))
 
 -- ---- every call keeps the slots good
 
-pub free-good : (k : Setting) (l : List Guest) (c : Cell) → c .held ≡ false → Good k l c
+pub free-good : (k : Setting) (l : List Guest) (c : Cell) → c .place .held ≡ false → Good k l c
 free-good k l c e h = absurd (false-true (sym e ∙ h))
 
 pub good-create : (k : Setting) (l : List Guest) (g : ℕ) (c : Cell) → g < length l → Good k l c → Good k (set l g (numbered (getD l g (newGuest 0 0)))) c
 unfolding numbered
-good-create k l g c b d h = go (same (c .owner) g)
+good-create k l g c b d h = go (same (c .place .owner) g)
   where
-    go : (c .owner ≡ g) ⊎ (c .owner ≡ g → ⊥) → Live k (getD (set l g (numbered (getD l g (newGuest 0 0)))) (c .owner) (newGuest 0 0)) c
+    go : (c .place .owner ≡ g) ⊎ (c .place .owner ≡ g → ⊥) → Live k (getD (set l g (numbered (getD l g (newGuest 0 0)))) (c .place .owner) (newGuest 0 0)) c
     go (inl e) =
         let v : Live k (getD l g (newGuest 0 0)) c = subst (λ (o : ℕ). Live k (getD l o (newGuest 0 0)) c) e (d h) in
         subst (λ (o : ℕ). Live k (getD (set l g (numbered (getD l g (newGuest 0 0)))) o (newGuest 0 0)) c) (sym e)
         (rw (getD-set-same l g (numbered (getD l g (newGuest 0 0))) (newGuest 0 0) b)
         record { attached = v .attached; low = v .low; high = omega (arith, v .high); sound = v .sound })
-    go (inr e) = rw (getD-set-other l g (c .owner) (numbered (getD l g (newGuest 0 0))) (newGuest 0 0) e) (d h)
+    go (inr e) = rw (getD-set-other l g (c .place .owner) (numbered (getD l g (newGuest 0 0))) (newGuest 0 0) e) (d h)
 
 pub good-attach : (k : Setting) (l : List Guest) (g : ℕ) (c : Cell) → Good k l c → Good k (set l g (restarted (getD l g (newGuest 0 0)))) (release g c)
 good-attach k l g c d = go (owns g c) refl
   where
     go : (b : Bool) → owns g c ≡ b → Good k (set l g (restarted (getD l g (newGuest 0 0)))) (cond b noCell c)
     go true e h = absurd (false-true h)
-    go false e h = rw (getD-set-other l g (c .owner) (restarted (getD l g (newGuest 0 0))) (newGuest 0 0) foreign) (d h)
+    go false e h = rw (getD-set-other l g (c .place .owner) (restarted (getD l g (newGuest 0 0))) (newGuest 0 0) foreign) (d h)
       where
-        foreign : c .owner ≡ g → ⊥
-        foreign o = false-true (sym e ∙ rw (h, eq-eqb (c .owner) g o))
+        foreign : c .place .owner ≡ g → ⊥
+        foreign o = false-true (sym e ∙ rw (h, eq-eqb (c .place .owner) g o))

@@ -61,15 +61,15 @@ total-attach s g =
     omega (arith, count-split isHeld (owns g) l)
   where
     kept : (c : Cell) → isHeld (release g c) ≡ isHeld c && not (owns g c)
-    kept c = go (c .held) refl (eqb (c .owner) g)
+    kept c = go (c .place .held) refl (eqb (c .place .owner) g)
       where
-        go : (b : Bool) → c .held ≡ b → (d : Bool) → isHeld (cond (b && d) noCell c) ≡ b && not (b && d)
+        go : (b : Bool) → c .place .held ≡ b → (d : Bool) → isHeld (cond (b && d) noCell c) ≡ b && not (b && d)
         go true e true = refl
         go true e false = e
         go false e d = e
 
     both : (c : Cell) → isHeld c && owns g c ≡ owns g c
-    both c = go (c .held) (eqb (c .owner) g)
+    both c = go (c .place .held) (eqb (c .place .owner) g)
       where
         go : (b d : Bool) → b && (b && d) ≡ b && d
         go true d = refl
@@ -80,8 +80,8 @@ total-create s g e r =
     let k = rw (freed s g r) at (count-swap isFree isHeld (newCell s g e) (r .cell) (s .cells) (r .free)) in
     omega arith
 
-found-held : (s : State) (g n : ℕ) (f : Found s g n) → f .cell .held ≡ true
-found-held s g n f = and-true (f .cell .held) (eqb (f .cell .owner) g) (found-owns s g n f) .0
+found-held : (s : State) (g n : ℕ) (f : Found s g n) → f .cell .place .held ≡ true
+found-held s g n f = and-true (f .cell .place .held) (eqb (f .cell .place .owner) g) (found-owns s g n f) .0
 
 total-destroy : (s : State) (g n : ℕ) → Found s g n → suc (count isHeld (swap (matches (s .setting) (guestOf s g) g n) noCell (s .cells))) ≡ total s
 total-destroy s g n f =
@@ -262,21 +262,21 @@ shares-apply s g a v f h = go (same h g)
 pub record Fresh (s : State) : Type 0 where
   pub size : length (s .cells) ≡ slotCount
   pub eight : length (s .guests) ≡ 8
-  pub free : All (λ c. c .held ≡ false) (s .cells)
+  pub free : All (λ c. c .place .held ≡ false) (s .cells)
   pub unattached : (g : ℕ) → guestOf s g .attached ≡ false
   pub unnumbered : (g : ℕ) → guestOf s g .last ≡ 0
   pub within : (g : ℕ) → guestOf s g .reserve ≤ guestOf s g .cap
   pub sum : sumTo 8 (λ g. guestOf s g .reserve) ≤ slotCount
 
 -- nothing is held
-pub none-held : (s : State) (p : Cell → Bool) → Fresh s → ((c : Cell) → c .held ≡ false → p c ≡ false) → count p (s .cells) ≡ 0
-none-held s p f h = count-none p (s .cells) (All-weaken (λ c. c .held ≡ false) (λ c. p c ≡ false) h (s .cells) (f .free))
+pub none-held : (s : State) (p : Cell → Bool) → Fresh s → ((c : Cell) → c .place .held ≡ false → p c ≡ false) → count p (s .cells) ≡ 0
+none-held s p f h = count-none p (s .cells) (All-weaken (λ c. c .place .held ≡ false) (λ c. p c ≡ false) h (s .cells) (f .free))
 
 pub inv-fresh : (s : State) → Fresh s → Inv s
 inv-fresh s f = record {
   size = f .size;
   eight = f .eight;
-  good = All-weaken (λ c. c .held ≡ false) (Good (s .setting) (s .guests)) (λ c. free-good (s .setting) (s .guests) c) (s .cells) (f .free);
+  good = All-weaken (λ c. c .place .held ≡ false) (Good (s .setting) (s .guests)) (λ c. free-good (s .setting) (s .guests) c) (s .cells) (f .free);
   unique = λ g n. omega (arith, none-held s (named g n) f (λ c e. unowned-named g n c (free-owns g c e)));
   stored = λ g e. absurd (false-true (sym (f .unattached g) ∙ e));
   shares = f .within;

@@ -23,15 +23,15 @@ use Rattle.history.specs.Lawful.{Ready, Creatable, Room, Found, in-list}
 
 -- ---- another guest's call
 
-owner-of : (g : ℕ) (c : Cell) → owns g c ≡ true → c .owner ≡ g
-owner-of g c e = eqb-true (c .owner) g (and-true (c .held) (eqb (c .owner) g) e .1)
+owner-of : (g : ℕ) (c : Cell) → owns g c ≡ true → c .place .owner ≡ g
+owner-of g c e = eqb-true (c .place .owner) g (and-true (c .place .held) (eqb (c .place .owner) g) e .1)
 
 -- a slot has one owner
 pub one-owner : (g h : ℕ) (c : Cell) → (g ≡ h → ⊥) → owns h c ≡ true → owns g c ≡ false
 one-owner g h c d e = other-owns g c (λ o. d (sym o ∙ owner-of h c e))
 
 pub matches-owns : (k : Setting) (r : Guest) (g n : ℕ) (c : Cell) → matches k r g n c ≡ true → owns g c ≡ true
-matches-owns k r g n c e = and-true (owns g c) (eqb (c .number) n) (and-true (named g n c) _ e .0) .0
+matches-owns k r g n c e = and-true (owns g c) (eqb (c .place .number) n) (and-true (named g n c) _ e .0) .0
 
 -- a replacement of a slot of others by one of others
 swap-view : (k : Setting) (r : Guest) (g : ℕ) (p : Cell → Bool) (x y : Cell) (cs : List Cell)
@@ -72,8 +72,8 @@ release-view k r g h cs d i = record {
         count-map (owns g) (release h) cs
         ∙ count-same (λ c. owns g (release h c)) (owns g) cs (All-every (λ c. owns g (release h c) ≡ owns g c) (λ c. release-owns g h c d) cs)
 
-pub freed : (s : State) (g : ℕ) (r : Room s g) → r .cell .held ≡ false
-freed s g r = not-held (r .cell .held) (first-passes isFree (r .cell) (s .cells) (r .free))
+pub freed : (s : State) (g : ℕ) (r : Room s g) → r .cell .place .held ≡ false
+freed s g r = not-held (r .cell .place .held) (first-passes isFree (r .cell) (s .cells) (r .free))
 
 found-passes : (s : State) (g n : ℕ) (f : Found s g n) → matches (s .setting) (guestOf s g) g n (f .cell) ≡ true
 found-passes s g n f = first-passes (matches (s .setting) (guestOf s g) g n) (f .cell) (s .cells) (f .found)

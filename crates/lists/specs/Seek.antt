@@ -46,9 +46,6 @@ module _ {A : Type 0} where
 pub none-some : {A : Type 0} {y : A} → none ≡ some y → ⊥
 none-some e = let z : _≡_ {A = ℕ} 0 1 = cc in omega arith
 
-pub one-le : (b : Bool) → one b ≤ 1
-one-le true = omega arith
-one-le false = omega arith
 
 module _ {A : Type 0} where
   -- a replacement, counted by another test
@@ -114,18 +111,6 @@ module _ {A : Type 0} where
       go true e ih = let h : q c ≡ false = cc in rw (h, hx)
       go false e ih = rw (ih e hy hx)
 
-  -- a replacement that passes the same test
-  pub first-swap-self : (p : A → Bool) (x y : A) (l : List A) → first p l ≡ some y → p x ≡ true → first p (swap p x l) ≡ some x
-  first-swap-self p x y [] e hx = absurd (none-some e)
-  first-swap-self p x y (c ∷ cs) e hx = go (p c) refl e (first-swap-self p x y cs)
-    where
-      go : (b : Bool)
-          → p c ≡ b
-          → cond b (some c) (first p cs) ≡ some y
-          → (first p cs ≡ some y → p x ≡ true → first p (swap p x cs) ≡ some x)
-          → first p (cond b (x ∷ cs) (c ∷ swap p x cs)) ≡ some x
-      go true k e ih = rw hx
-      go false k e ih = rw k (ih e hx)
 
   -- a replacement that is the only one to pass q
   pub first-swap-new : (p q : A → Bool) (x y : A) (l : List A) → first p l ≡ some y → count q l ≡ 0 → q x ≡ true → first q (swap p x l) ≡ some x
@@ -175,9 +160,6 @@ module _ {A : Type 0} where
   count-same p q [] a = refl
   count-same p q (c ∷ cs) a = rw (a .0, count-same p q cs (a .1))
 
-  pub swap-same : (p q : A → Bool) (x : A) (l : List A) → All (λ c. p c ≡ q c) l → swap p x l ≡ swap q x l
-  swap-same p q x [] a = refl
-  swap-same p q x (c ∷ cs) a = rw (a .0, swap-same p q x cs (a .1))
 
   pub count-none : (p : A → Bool) (l : List A) → All (λ c. p c ≡ false) l → count p l ≡ 0
   count-none p [] a = refl
@@ -273,9 +255,6 @@ module _ {A : Type 0} where
       go true h ih = absurd (omega arith)
       go false h ih = ih (omega arith)
 
-  -- one more element: how a loop counts
-  pub count-take : (p : A → Bool) (l : List A) (i : ℕ) (d : A) → i < length l → count p (take (i + 1) l) ≡ count p (take i l) + one (p (getD l i d))
-  count-take p l i d h = rw (add-one i, take-suc l i d h, count-append p (take i l) (getD l i d ∷ [])) (omega arith)
 
 -- ---- maps
 

@@ -11,10 +11,6 @@ use borrow.Author.Tests.{eqb-true, eqb-false}
 pub false-true : false ≡ true → ⊥
 false-true e = let z : _≡_ {A = ℕ} 0 1 = cc in omega arith
 
--- to go by cases and keep the equation
-pub cases : (b : Bool) → (b ≡ true) ⊎ (b ≡ false)
-cases true = inl refl
-cases false = inr refl
 
 -- two numbers are equal or not
 pub same : (a b : ℕ) → (a ≡ b) ⊎ (a ≡ b → ⊥)
@@ -32,9 +28,6 @@ pub and-true : (a b : Bool) → a && b ≡ true → (a ≡ true) × (b ≡ true)
 and-true true b e = (refl, e)
 and-true false b e = absurd (false-true e)
 
-pub and-false : (a : Bool) → a && false ≡ false
-and-false true = refl
-and-false false = refl
 
 pub or-false : (a b : Bool) → a || b ≡ false → (a ≡ false) × (b ≡ false)
 or-false true b e = absurd (false-true (sym e))

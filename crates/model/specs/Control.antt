@@ -11,7 +11,7 @@ use Rattle.model.specs.Bytes.{le32, le64, part}
 use Rattle.model.specs.Answer.{err, notsupp, nospc, badGuest, noOutcome, badStore, Check}
 use Rattle.model.specs.Lens.{orIn}
 use Rattle.model.specs.Algorithm.{cipher, hash, mac, aead}
-use Rattle.model.specs.Session.{lastNumber, Session, Entry, keyArea, bit, offers, directionOk, lengthsOk}
+use Rattle.model.specs.Session.{lastNumber, Session, areaOf, Entry, bit, offers, directionOk, lengthsOk}
 use Rattle.model.specs.View.{Setting, View, sized, present}
 use Rattle.model.specs.Act.{Act, create, destroy}
 
@@ -53,7 +53,7 @@ plainCreate r = not (eqb (service r) cipher) || eqb (le32 r 64) 1
 
 -- the new session with its key area
 unfoldable pub newEntry : List ℕ → Entry
-newEntry r = record { session = asked r; key = keyArea (asked r .service) (part r (16 + createPart (asked r .service)) (asked r .keylen)) }
+newEntry r = record { session = asked r; key = areaOf (asked r .service) (part r (16 + createPart (asked r .service)) (asked r .keylen)) }
 
 -- ---- the checks in order, over the readable bytes and the number of writable bytes
 

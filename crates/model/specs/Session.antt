@@ -11,7 +11,7 @@ use Rattle.model.specs.declared.Table.{Table}
 use Rattle.model.specs.Bytes.{part, padded}
 use Rattle.model.specs.Algorithm.{cipher, hash, mac, aead, known, keyOk, resultOk}
 
--- "A table holds 128 slots", and slot s owns key bytes 128·s to 128·s+127
+-- "A table holds 128 slots and eight guest records." "Slot s owns key bytes 128·s to 128·s+127"
 abbrev pub slotCount : ℕ
 slotCount = 128
 
@@ -42,7 +42,7 @@ pub record Session : Type 0 where
   pub result : ℕ
   pub aad : ℕ
 
--- a slot is free, or holds session `number` of guest `owner`
+-- "A slot is free, or holds owner, session number, service, algorithm, direction and lengths"
 pub record Place : Type 0 where
   pub held : Bool
   pub owner : ℕ
@@ -88,11 +88,11 @@ slotsOf t = map placeOf (t .slots)
 abbrev pub placeAt : Table → ℕ → Place
 placeAt t i = getD (slotsOf t) i free
 
--- a guest that never attached, with 01's "reserve" and "cap"
+-- a guest that never attached
 unfoldable pub newGuest : ℕ → ℕ → Guest
 newGuest reserve cap = record { attached = false; reserve = reserve; cap = cap; last = 0 }
 
--- the record of guest g; one above 7 has none, and is as a guest that never attached and has no share
+-- the record of guest g; one above 7 has none: it never attached, and has no share
 abbrev pub guestAt : Table → ℕ → Guest
 guestAt t g = getD (t .guests) g (newGuest 0 0)
 
@@ -105,13 +105,16 @@ area i b = take areaSize (drop (areaSize * i) b)
 abbrev pub zeros : List ℕ
 zeros = replicate areaSize 0
 
--- "a cipher or AEAD key starts at 0, a MAC key at 64"
+-- an area with one key from byte 0 and one from byte 64, all else zero
+unfoldable pub keyArea : List ℕ → List ℕ → List ℕ
+keyArea front back = padded 64 front ++ padded 64 back
+
+-- the area of a new session: "a cipher or AEAD key starts at 0, a MAC key at 64, all else is zero"
+unfoldable pub areaOf : ℕ → List ℕ → List ℕ
+areaOf service key = cond (eqb service mac) (keyArea [] key) (keyArea key [])
+
 unfoldable pub keyStart : ℕ → ℕ
 keyStart service = cond (eqb service mac) 64 0
-
--- the area that holds a key: all else is zero
-unfoldable pub keyArea : ℕ → List ℕ → List ℕ
-keyArea service key = cond (eqb service mac) (padded 64 [] ++ padded 64 key) (padded 64 key ++ padded 64 [])
 
 -- how long a session's key is; a hash has none, whatever its slot says
 unfoldable pub keyLen : Session → ℕ

@@ -70,7 +70,7 @@ abbrev pub allTo : ℕ → (ℕ → Bool) → Bool
 allTo zero p = true
 allTo (suc n) p = allTo n p && p n
 
--- "Each guest has a reserve and a cap: reserve ≤ cap ≤ 128 and the reserves sum to at most 128"
+-- 01's terms "reserve" and "cap": "Each guest has a reserve and a cap: reserve ≤ cap ≤ 128 and the reserves sum to at most 128"
 unfoldable pub sharesOk : List ℕ → List ℕ → Bool
 sharesOk reserves caps =
     allTo 8 (λ g. leb (getD reserves g 0) (getD caps g 0) && leb (getD caps g 0) slotCount)

@@ -21,11 +21,12 @@ isFree c = not (c .held)
 abbrev pub owned : ℕ → Place → Bool
 owned g c = c .held && eqb (c .owner) g
 
--- number n was given to the guest with record r, and the slot's other fields pass step 4
+-- "A held slot matches no number if its owner is above 7 or not attached, its number is 0 or not yet given to that owner, its service is not
+-- offered, or its other fields fail step 4": of number n, the owner with record r, and the configuration k
 abbrev pub given : Config → Guest → ℕ → Place → Bool
 given k r n c = r .attached && ltb 0 n && leb n (r .last) && accepts k (c .session)
 
--- 01's term "live": the slot matches session number n of guest g
+-- 01's term "live": the slot matches session number n of guest g, its owner
 abbrev pub live : Table → ℕ → ℕ → Place → Bool
 live t g n c = owned g c && eqb (c .number) n && given (t .config) (guestAt t g) n c
 
@@ -49,7 +50,7 @@ holds t g = count (owned g) (slotsOf t)
 abbrev pub total : Table → ℕ
 total t = count isHeld (slotsOf t)
 
--- a guest's reserve minus what it holds, not below 0, attached or not
+-- "reserve minus held, not below 0, attached or not"
 abbrev pub unmet : Table → ℕ → ℕ
 unmet t g = guestAt t g .reserve - holds t g
 
@@ -57,7 +58,8 @@ unmet t g = guestAt t g .reserve - holds t g
 abbrev pub owed : Table → ℕ → ℕ
 owed t g = sumTo 8 (except g (unmet t))
 
--- a create of guest g is NOSPC: 01's terms "cap" and "reserve" are the two fields of the guest's record
+-- "A create is NOSPC exactly if the guest holds its cap; or it holds at least its reserve, and all held slots plus the other guests' unmet
+-- reserves reach 128; or no slot is free"
 unfoldable pub full : Table → ℕ → Bool
 full t g =
     leb (guestAt t g .cap) (holds t g)

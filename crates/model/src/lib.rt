@@ -30,7 +30,7 @@ pub struct Slot {
     pub result: u8,
 }
 
-// `last` is the last session number given since the guest's last attach.
+// `reserve` and `cap` are the guest's shares, `last` the last session number given since its last attach.
 pub struct Guest {
     pub attached: bool,
     pub reserve: u8,
