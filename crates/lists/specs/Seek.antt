@@ -46,7 +46,6 @@ module _ {A : Type 0} where
 pub none-some : {A : Type 0} {y : A} → none ≡ some y → ⊥
 none-some e = let z : _≡_ {A = ℕ} 0 1 = cc in omega arith
 
-
 module _ {A : Type 0} where
   -- a replacement, counted by another test
   pub count-swap : (p q : A → Bool) (x y : A) (l : List A) → first p l ≡ some y → count q (swap p x l) + one (q y) ≡ count q l + one (q x)
@@ -111,7 +110,6 @@ module _ {A : Type 0} where
       go true e ih = let h : q c ≡ false = cc in rw (h, hx)
       go false e ih = rw (ih e hy hx)
 
-
   -- a replacement that is the only one to pass q
   pub first-swap-new : (p q : A → Bool) (x y : A) (l : List A) → first p l ≡ some y → count q l ≡ 0 → q x ≡ true → first q (swap p x l) ≡ some x
   first-swap-new p q x y [] e h hx = absurd (none-some e)
@@ -159,7 +157,6 @@ module _ {A : Type 0} where
   pub count-same : (p q : A → Bool) (l : List A) → All (λ c. p c ≡ q c) l → count p l ≡ count q l
   count-same p q [] a = refl
   count-same p q (c ∷ cs) a = rw (a .0, count-same p q cs (a .1))
-
 
   pub count-none : (p : A → Bool) (l : List A) → All (λ c. p c ≡ false) l → count p l ≡ 0
   count-none p [] a = refl
@@ -254,7 +251,6 @@ module _ {A : Type 0} where
       go : (b : Bool) → suc (length cs) ≤ cond b 0 (suc (index p cs)) → (length cs ≤ index p cs → first p cs ≡ none) → cond b (some c) (first p cs) ≡ none
       go true h ih = absurd (omega arith)
       go false h ih = ih (omega arith)
-
 
 -- ---- maps
 

@@ -11,7 +11,6 @@ use borrow.Author.Tests.{eqb-true, eqb-false}
 pub false-true : false ≡ true → ⊥
 false-true e = let z : _≡_ {A = ℕ} 0 1 = cc in omega arith
 
-
 -- two numbers are equal or not
 pub same : (a b : ℕ) → (a ≡ b) ⊎ (a ≡ b → ⊥)
 same a b = go (eqb a b) refl
@@ -27,7 +26,6 @@ not-true false h = refl
 pub and-true : (a b : Bool) → a && b ≡ true → (a ≡ true) × (b ≡ true)
 and-true true b e = (refl, e)
 and-true false b e = absurd (false-true e)
-
 
 pub or-false : (a b : Bool) → a || b ≡ false → (a ≡ false) × (b ≡ false)
 or-false true b e = absurd (false-true (sym e))
