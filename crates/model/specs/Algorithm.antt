@@ -42,20 +42,25 @@ aeads = 1 ∷ 2 ∷ 3 ∷ []
 abbrev pub aes : Lens
 aes = oneOf (16 ∷ 24 ∷ 32 ∷ [])
 
+-- "AES_ECB, AES_CBC, AES_CTR: key 16, 24 or 32. AES_XTS: key 32 or 64. 3DES_CBC: key 24"
 abbrev pub cipherKeys : Rule
 cipherKeys = (2, aes) ∷ (3, aes) ∷ (4, aes) ∷ (8, oneOf (24 ∷ [])) ∷ (13, oneOf (32 ∷ 64 ∷ [])) ∷ []
 
+-- "IV: 0 for ECB, 8 for 3DES, else 16"
 abbrev pub cipherIvs : Rule
 cipherIvs = (2, oneOf (0 ∷ [])) ∷ (3, oneOf (16 ∷ [])) ∷ (4, oneOf (16 ∷ [])) ∷ (8, oneOf (8 ∷ [])) ∷ (13, oneOf (16 ∷ [])) ∷ []
 
+-- "Source: a multiple of 16 for AES_ECB and AES_CBC, of 8 for 3DES_CBC, any for CTR, at least 16 for XTS"
 abbrev pub cipherSources : Rule
 cipherSources = (2, multiple 16) ∷ (3, multiple 16) ∷ (4, any) ∷ (8, multiple 8) ∷ (13, atLeast 16) ∷ []
 
 -- ---- hash and MAC
 
+-- "MD5 16, SHA1 20, SHA_224 28, SHA_256 32, SHA_384 48, SHA_512 64; result 1 to that length"
 abbrev pub hashResults : Rule
 hashResults = (1, span 1 16) ∷ (2, span 1 20) ∷ (3, span 1 28) ∷ (4, span 1 32) ∷ (5, span 1 48) ∷ (6, span 1 64) ∷ []
 
+-- "HMAC over the same six, key 1 to 64, result 1 to the digest; CMAC_AES, key 16, 24 or 32, result 1 to 16"
 abbrev pub macKeys : Rule
 macKeys = (1, span 1 64) ∷ (2, span 1 64) ∷ (3, span 1 64) ∷ (4, span 1 64) ∷ (5, span 1 64) ∷ (6, span 1 64) ∷ (26, aes) ∷ []
 
@@ -64,6 +69,7 @@ cmacResults = (26, span 1 16) ∷ []
 
 -- ---- AEAD
 
+-- "GCM key 16, 24, 32, IV 12, tag 4, 8, 12 to 16; CCM key 16, 24, 32, IV 7 to 13, tag 4 to 16 even; CHACHA20_POLY1305 key 32, IV 12, tag 16"
 abbrev pub aeadKeys : Rule
 aeadKeys = (1, aes) ∷ (2, aes) ∷ (3, oneOf (32 ∷ [])) ∷ []
 
@@ -109,6 +115,7 @@ ivOk service algo n =
 unfoldable pub sourceOk : ℕ → ℕ → ℕ → Bool
 sourceOk service algo n = eqb service cipher && ruled cipherSources algo n || eqb service hash || eqb service mac || eqb service aead
 
--- the bytes written before the status: a cipher's destination is its source, an AEAD's its source plus tag; a hash or MAC writes its result
+-- the bytes written before the status: of a cipher "Destination equals source", of an AEAD "source plus tag, for either direction"; a hash or MAC
+-- writes its result
 unfoldable pub writtenLen : ℕ → ℕ → ℕ → ℕ
 writtenLen service source result = cond (eqb service cipher) source (cond (eqb service aead) (source + result) result)

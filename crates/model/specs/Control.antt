@@ -27,12 +27,13 @@ service r = opcode r / 256
 abbrev pub isCreate : List ℕ → Bool
 isCreate r = eqb (opcode r % 256) 2
 
--- the opcode is known and its service offered
+-- the opcode is known, and its service offered: its bit is set
 unfoldable pub opcodeOk : Config → ℕ → Bool
 opcodeOk k op = orIn false op (2 ∷ 3 ∷ 258 ∷ 259 ∷ 514 ∷ 515 ∷ 770 ∷ 771 ∷ []) && bit (k .services) (op / 256)
 
 -- ---- a create's fixed part, by service: virtio_crypto_sym_create_session_flf, _hash_, _mac_ and _aead_
 
+-- "Fixed parts: cipher 56, hash 8, MAC 16, AEAD 24"
 abbrev pub createPart : ℕ → ℕ
 createPart s = cond (eqb s cipher) 56 (cond (eqb s hash) 8 (cond (eqb s mac) 16 24))
 
@@ -57,27 +58,37 @@ newEntry r = record { session = asked r; key = areaOf (asked r .service) (part r
 
 -- ---- the checks in order, over the readable bytes and the number of writable bytes
 
--- step 1
+-- step 1: "Store length 18; guest 16; writable length 17"
 abbrev pub placeChecks : ℕ → Bool → ℕ → List Check
 placeChecks store here room = (sized store, badStore) ∷ (here, badGuest) ∷ (eqb room 16 || eqb room 1, noOutcome) ∷ []
 
 -- steps 2 and 3
 abbrev pub headChecks : Config → List ℕ → ℕ → List Check
 headChecks k r room =
+    -- "Fewer than 16 readable bytes: 1"
     (leb 16 (length r), err)
+    -- "Opcode unknown or service not offered: 3"
     ∷ (opcodeOk k (opcode r), notsupp)
+    -- "Writable not 16 for create, 1 for destroy: 1"
     ∷ (eqb room (cond (isCreate r) 16 1), err)
+    -- "Fewer than 16 plus the fixed part: 1"
     ∷ (leb (16 + cond (isCreate r) (createPart (service r)) 8) (length r), err)
     ∷ []
 
 -- step 4, up to the session number
 abbrev pub sessionChecks : Config → List ℕ → List Check
 sessionChecks k r =
+    -- "cipher op_type (offset 48 of the fixed part) not 1: 3"
     (plainCreate r, notsupp)
+    -- "The fixed part's algorithm not offered: 3"
     ∷ (offers k (asked r .service) (asked r .algo), notsupp)
+    -- "Header algo differs from the fixed part's: 1"
     ∷ (eqb (le32 r 4) (asked r .algo), err)
+    -- "Direction not 1 (encrypt) or 2 (decrypt), for cipher and AEAD: 1"
     ∷ (directionOk (asked r), err)
+    -- "A length against the rules: 1"
     ∷ (lengthsOk k (asked r), err)
+    -- "Readable not exactly header, fixed part and key: 1"
     ∷ (eqb (length r) (16 + createPart (asked r .service) + asked r .keylen), err)
     ∷ []
 
@@ -85,10 +96,11 @@ sessionChecks k r =
 abbrev pub formChecks : Setting → ℕ → View → List ℕ → ℕ → List Check
 formChecks k g v r room = placeChecks (k .store) (present g (v .guest)) room ++ headChecks (k .config) r room ++ sessionChecks (k .config) r
 
+-- 01's term "numbers left": the last one given is not 4,294,967,295
 abbrev pub numbersLeft : View → Bool
 numbersLeft v = ltb (v .guest .last) lastNumber
 
--- a create's; f says that it is NOSPC
+-- a create's: "No session number left: 1. NOSPC: 5." f says that it is NOSPC
 abbrev pub createChecks : Setting → ℕ → View → Bool → List ℕ → ℕ → List Check
 createChecks k g v f r room = formChecks k g v r room ++ (numbersLeft v, err) ∷ (not f, nospc) ∷ []
 
@@ -97,7 +109,7 @@ abbrev pub ofService : ℕ → Option Entry → Bool
 ofService s none = false
 ofService s (some e) = eqb (e .session .service) s
 
--- a destroy's: step 5
+-- a destroy's: step 5, "readable not 24: 1. Session number not live for this guest, or of another service: 1"
 abbrev pub destroyChecks : Setting → ℕ → View → List ℕ → ℕ → List Check
 destroyChecks k g v r room =
     placeChecks (k .store) (present g (v .guest)) room

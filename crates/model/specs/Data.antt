@@ -33,6 +33,7 @@ direction r = suc (opcode r % 256)
 
 -- ---- the fixed part, by service: virtio_crypto_sym_data_flf, _hash_, _mac_ and _aead_
 
+-- "Fixed parts: cipher 48, hash 8, MAC 8, AEAD 24"
 abbrev pub dataPart : ℕ → ℕ
 dataPart s = cond (eqb s cipher) 48 (cond (eqb s hash || eqb s mac) 8 24)
 
@@ -61,7 +62,7 @@ plainData r = not (eqb (service r) cipher) || eqb (le32 r 64) 1
 abbrev pub start : List ℕ → ℕ
 start r = 24 + dataPart (service r)
 
--- the lengths against the rules and the session's own
+-- the lengths against the rules; "AAD, tag and result lengths of a data request equal the session's"
 unfoldable pub fits : Session → Lengths → Bool
 fits x n =
     ivOk (x .service) (x .algo) (n .iv)
@@ -80,21 +81,31 @@ suits s d (some x) = eqb (x .service) s && (not (directed s) || eqb (x .directio
 -- by whether the guest is present, the live session that the request names, the readable bytes and the number of writable bytes
 abbrev pub dataChecks : Config → Bool → Option Session → List ℕ → ℕ → List Check
 dataChecks k here x r room =
+    -- "16; 17"
     (here, badGuest)
     ∷ (leb 1 room, noOutcome)
+    -- "readable under 24: 1"
     ∷ (leb 24 (length r), err)
+    -- "opcode unknown or service not offered: 3"
     ∷ (operationOk k (opcode r), notsupp)
+    -- "flag 0: 3; flag not 1: 1"
     ∷ (not (eqb (flag r) 0), notsupp)
     ∷ (eqb (flag r) 1, err)
+    -- "session not live for this guest, or other service or direction: 4"
     ∷ (suits (service r) (direction r) x, invsess)
+    -- "readable under header plus fixed part: 1"
     ∷ (leb (start r) (length r), err)
+    -- "cipher op_type (offset 40) not 1: 3"
     ∷ (plainData r, notsupp)
+    -- "variable lengths, read and written, above max_size in sum: 1"
     ∷ (leb (lengths r .iv + lengths r .source + lengths r .aad + lengths r .written) (k .size), err)
+    -- "readable or writable (result plus 1) not exact: 1"
     ∷ (eqb (length r) (start r + lengths r .iv + lengths r .source + lengths r .aad) && eqb room (lengths r .written + 1), err)
+    -- "lengths against the rules: 1"
     ∷ (fits (Option·getD x noSession) (lengths r), err)
     ∷ []
 
--- ---- the parts of an accepted request
+-- ---- the parts of an accepted request: "IV and source; source; source; IV, source and AAD"
 
 pub data Field : Type 0 where
   iv : Field
@@ -112,18 +123,21 @@ abbrev pub isLive : Option Entry → Bool
 isLive none = false
 isLive (some e) = true
 
+-- "18, 16, 4 if nothing live matches, else 0"
 abbrev pub keyChecks : ℕ → Bool → Bool → List Check
 keyChecks store here alive = (sized store, badStore) ∷ (here, badGuest) ∷ (alive, invsess) ∷ []
 
+-- a part of the key store; a hash's is empty
 abbrev pub keyBytes : Option Entry → List ℕ
 keyBytes none = []
 keyBytes (some e) = keyOf e
 
 -- ---- finish
 
+-- "order 16, 17"
 abbrev pub finishChecks : Bool → ℕ → List Check
 finishChecks here room = (here, badGuest) ∷ (leb 1 room, noOutcome) ∷ []
 
--- verdict 0 or 1, or 2 for AEAD decryption; any other writes 1
+-- "Verdict 0 or 1, or 2 for AEAD decryption, is written as the last byte; any other writes 1"
 unfoldable pub status : ℕ → ℕ → ℕ
 status op verdict = cond (leb verdict err || eqb verdict badmsg && eqb op 769) verdict err

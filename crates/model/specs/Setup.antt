@@ -16,7 +16,7 @@ use Rattle.model.specs.View.{sized}
 
 -- ---- the configuration: twelve 32-bit fields in document 001's order, then max_size (64 bits)
 
--- "max_size at most 65,536"
+-- of max_size
 abbrev pub sizeLimit : ℕ
 sizeLimit = 65536
 
@@ -46,6 +46,8 @@ bits (n ∷ l) = 2 ^ n + bits l
 unfoldable pub onlyBits : List ℕ → ℕ → Bool
 onlyBits l mask = eqb (bitAnd mask (bits l)) mask
 
+-- "status 1; max_dataqueues 1 to 8; crypto_services only bits 0 to 3; each mask only bits of the algorithms below; both key limits at most 64;
+-- reserved 0; max_size at most 65,536"
 unfoldable pub configOk : Config → Bool
 configOk k =
     eqb (k .status) 1
@@ -78,6 +80,7 @@ sharesOk reserves caps =
 
 -- ---- set-up
 
+-- "Order: 18, 21, 20"
 abbrev pub setUpChecks : List ℕ → List ℕ → List ℕ → List ℕ → List Check
 setUpChecks config reserves caps store =
     (sized (length store), badStore) ∷ (eqb (length config) 56 && configOk (configOf config), badConfig) ∷ (sharesOk reserves caps, badShares) ∷ []
@@ -100,7 +103,7 @@ setUp config reserves caps store =
     (record { table = freshTable (configOf config) reserves caps; store = replicate storeSize 0 })
     (record { table = freshTable (configOf []) [] []; store = store })
 
--- ---- attach: "Only the value 1 (revision 1) is taken"
+-- ---- attach: "Only the value 1 (revision 1) is taken, else 19", "Order: 18, guest above 7 (16), 19; else 0"
 
 abbrev pub attachChecks : ℕ → ℕ → ℕ → List Check
 attachChecks store g word = (sized store, badStore) ∷ (ltb g 8, badGuest) ∷ (eqb word 1, badFeature) ∷ []
