@@ -113,6 +113,7 @@ demand3 config reserves caps store cs = record {
   same = λ g h. same-outcomes g w cs v ∙ d .same g (modest g w cs v h) ∙ sym (same-outcomes g w (only g cs) v);
   history = λ g. omega (arith, held g, told g .holds);
   numbers = λ g. told g .numbers;
+  range = λ g. omega (arith, told-here g .last, kept .numbers g);
 }
   where
     w : World
@@ -136,12 +137,15 @@ demand3 config reserves caps store cs = record {
     told : (g : ℕ) → Told (pastOf g w cs) (Cells.view (Rules.run rules (stateOf w) cs) g)
     told g = subst (λ (p : Past). Told p (Cells.view (Rules.run rules (stateOf w) cs) g)) (sym (same-past g (begun false) w cs v)) (d .history g)
 
-    -- the last number that the history knows is the table's, and at most 4,294,967,295
-    last : (g : ℕ) → (pastOf g w cs .last ≡ lastNumber → ⊥) → guestAt (t .table) g .last < lastNumber
-    last g n =
-        let p = subst (Told (pastOf g w cs)) (ap (λ s. Cells.view s g) (sym state) ∙ view-slots t g) (told g) in
-        let i = subst Inv (sym state) (Rules.inv-run rules (stateOf w) cs v) in
-        below (guestAt (t .table) g .last) (i .numbers g) (λ e. n (sym (p .last) ∙ e))
+    told-here : (g : ℕ) → Told (pastOf g w cs) (view t g)
+    told-here g = subst (Told (pastOf g w cs)) (ap (λ s. Cells.view s g) (sym state) ∙ view-slots t g) (told g)
+
+    kept : Inv (stateOf t)
+    kept = subst Inv (sym state) (Rules.inv-run rules (stateOf w) cs v)
+
+    -- a guest whose last number is not the last of all has one left
+    left : (g : ℕ) → (pastOf g w cs .last ≡ lastNumber → ⊥) → guestAt (t .table) g .last < lastNumber
+    left g n = below (guestAt (t .table) g .last) (kept .numbers g) (λ e. n (sym (told-here g .last) ∙ e))
       where
         below : (m : ℕ) → m ≤ lastNumber → (m ≡ lastNumber → ⊥) → m < lastNumber
         below m h d = omega arith
@@ -150,7 +154,7 @@ demand3 config reserves caps store cs = record {
         → answerOf (act t g (Control r b)) ≡ ok
     granted g r b f n h =
         let c : Call Request = record { guest = g; request = Control r b } in
-        let m = formed-creates t g r b f (last g n) in
+        let m = formed-creates t g r b f (left g n) in
         let grants = subst
         (λ (s : State). Creates (Rules.wish rules s c) → Cells.holds s g < guestAt (w .table) g .reserve → Rules.act rules s c ≡ Rules.wish rules s c) (sym state)
         (d .grants c) in

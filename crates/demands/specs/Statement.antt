@@ -151,5 +151,6 @@ pub record Demand3 (w : World) (cs : List (Call Request)) : Type 0 where
   pub same : (g : ℕ) → Within g w cs → outcomes g w cs ≡ outcomes g w (only g cs)
   -- the history rule: what a guest holds is its granted creates less its granted destroys since its last granted attach
   pub history : (g : ℕ) → holds (run w cs .table) g + pastOf g w cs .destroys ≡ pastOf g w cs .creates
-  -- and each granted create took the next session number, from 1
+  -- and each granted create took the next session number, from 1 to at most 4,294,967,295
   pub numbers : (g : ℕ) → pastOf g w cs .last ≡ pastOf g w cs .creates
+  pub range : (g : ℕ) → pastOf g w cs .last ≤ lastNumber
