@@ -1,6 +1,7 @@
 pub mod Statement
 pub mod Demand1
 pub mod Demand2
+pub mod Outcomes
 pub mod Checks
 pub mod Instance
 pub mod Start

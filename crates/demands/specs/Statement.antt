@@ -12,11 +12,11 @@ use Rattle.model.specs.Answer.{ok, err, badmsg, notsupp, invsess, nospc, badGue
 use Rattle.model.specs.Lens.{orIn}
 use Rattle.model.specs.Algorithm.{cipher}
 use Rattle.model.specs.Session.{slotCount, lastNumber, World, Place, placeAt, guestAt, directed}
-use Rattle.model.specs.View.{live, liveAt, holds, total}
+use Rattle.model.specs.View.{live, liveAt, find, holds, total}
 use Rattle.model.specs.Setup.{configOf, freshTable, setUpChecks, setUpAnswer, setUp}
-use Rattle.model.specs.Control.{opcode, service}
-use Rattle.model.specs.Data.{number, flag, operationOk, direction, start, lengths, fits, status}
-use Rattle.model.specs.Device.{Request, Attach, Control, Admit, Part, KeyAnswer, Key, Finish, checks, reply, next}
+use Rattle.model.specs.Control.{opcode, service, isCreate}
+use Rattle.model.specs.Data.{number, flag, operationOk, direction, start, lengths, fits, partOf, keyBytes, status}
+use Rattle.model.specs.Device.{Request, Attach, Control, Admit, Part, KeyAnswer, Key, Finish, Outcome, noJob, checks, reply, next}
 use Rattle.model.specs.Calls.{Call, run, outcomes, only, pastOf, WellFormed}
 use Rattle.laws.specs.Judge.{Passed}
 
@@ -95,6 +95,28 @@ Demand2 w g q = Answered (checks w g q) (reply w g q .answer) (success q)
 
 abbrev pub SetUpAnswered : List ℕ → List ℕ → List ℕ → List ℕ → Type 0
 SetUpAnswered config reserves caps store = Answered (setUpChecks config reserves caps store) (setUpAnswer config reserves caps store) ok
+
+-- what a call whose checks all hold gives its caller
+abbrev pub Given : World → ℕ → Request → Outcome → Type 0
+Given w g (Attach word) o = o .writable ≡ []
+-- a create: the next session number, status 0, padding 0; a destroy: status 0
+Given w g (Control r b) o =
+    ((isCreate r ≡ true) × (o .writable ≡ le 8 (suc (guestAt (w .table) g .last)) ++ le 4 ok ++ le 4 0)) ⊎ ((isCreate r ≡ false) × (o .writable ≡ ok ∷ []))
+-- nothing is written until finish
+Given w g (Admit r b) o = (o .writable ≡ b) × (o .job ≡ record { guest = g; number = number r; opcode = opcode r })
+Given w g (Part x r b) o = (o .writable ≡ b) × (o .bytes ≡ partOf x r)
+Given w g (KeyAnswer n) o = o .writable ≡ []
+Given w g (Key n) o = o .bytes ≡ keyBytes (find w g n)
+Given w g (Finish op verdict b) o = LastByte b (o .writable) (status op verdict)
+
+-- and one refused with answer n: it names zeros, and its part or key is empty
+pub record NotGiven (o : Outcome) : Type 0 where
+  pub job : o .job ≡ noJob
+  pub bytes : o .bytes ≡ []
+
+pub record Gets (w : World) (g : ℕ) (q : Request) : Type 0 where
+  pub given : Passed (checks w g q) → Given w g q (reply w g q)
+  pub refused : (Passed (checks w g q) → ⊥) → NotGiven (reply w g q)
 
 -- the slot of the session that a data request names
 abbrev pub named : Table → ℕ → List ℕ → Place
