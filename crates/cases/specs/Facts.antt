@@ -13,7 +13,7 @@ use Rattle.model.specs.Bytes.{le, le32, le64, part, padded}
 use Rattle.model.specs.Answer.{firstFail, controlOutcome, dataOutcome, controlBytes, dataBytes}
 use Rattle.model.specs.Algorithm.{known, keyOk, resultOk, ivOk, sourceOk, writtenLen}
 use Rattle.model.specs.Session.{storeSize, lastNumber, World, Session, Place, free, holding, slotOf, slotsOf, newGuest, guestAt, area, zeros, keyStart, keyArea, areaOf, keyLen, keyOf, bit, offers, directionOk, lengthsOk, accepts}
-use Rattle.model.specs.View.{present, find, full, holds, total}
+use Rattle.model.specs.View.{present, find, noRoom, full, holds, total}
 use Rattle.model.specs.Act.{withSlot, without, withGuest, restarted, numbered, tableAfter, storeAfter, withArea, wipe}
 use Rattle.model.specs.Setup.{configOf, onlyBits, configOk, sharesOk, setUpAnswer, freshTable, setUp}
 use Rattle.model.specs.Control.{opcodeOk, asked, newEntry, controlChecks}
@@ -552,5 +552,5 @@ pub facts :
     ++ failing 400 attached crowd
     ++ failing 500 contended contest
     ≡ []
-unfolding le le32 le64 part padded firstFail controlOutcome dataOutcome controlBytes dataBytes known keyOk resultOk ivOk sourceOk writtenLen slotOf slotsOf newGuest keyStart keyArea areaOf keyLen keyOf bit offers directionOk lengthsOk accepts present find full withSlot without withGuest restarted numbered tableAfter storeAfter withArea wipe configOf onlyBits configOk sharesOk setUpAnswer freshTable setUp opcodeOk asked newEntry controlChecks operationOk lengths fits partOf status checksOf outcome checks act reply next sumTo
+unfolding le le32 le64 part padded firstFail controlOutcome dataOutcome controlBytes dataBytes known keyOk resultOk ivOk sourceOk writtenLen slotOf slotsOf newGuest keyStart keyArea areaOf keyLen keyOf bit offers directionOk lengthsOk accepts present find noRoom full withSlot without withGuest restarted numbered tableAfter storeAfter withArea wipe configOf onlyBits configOk sharesOk setUpAnswer freshTable setUp opcodeOk asked newEntry controlChecks operationOk lengths fits partOf status checksOf outcome checks act reply next sumTo
 facts = refl

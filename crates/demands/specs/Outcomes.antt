@@ -6,18 +6,17 @@ use mathlib.Core.Bool.{Bool, true, false, cond}
 use mathlib.Core.List.{List, [], _∷_, _++_}
 use Prim.Native.Nat.{ℕ, suc}
 use lib.ListN.{length}
-use borrow.Author.Tests.{eqb-true, eq-eqb, leb-true}
-use Rattle.lists.specs.Test.{both-ways}
-use Rattle.model.specs.Bytes.{le, le64}
-use Rattle.model.specs.Answer.{ok, firstFail, granted, controlOutcome, controlBytes, dataBytes, dataOutcome}
-use Rattle.model.specs.Session.{World, guestAt}
+use borrow.Author.Tests.{eqb-true, leb-true}
+use Rattle.model.specs.Bytes.{le}
+use Rattle.model.specs.Answer.{ok, firstFail, granted, controlOutcome, controlBytes, dataBytes}
+use Rattle.model.specs.Session.{World}
 use Rattle.model.specs.View.{Setting, View, setting, view, full}
 use Rattle.model.specs.Control.{isCreate, createChecks, destroyChecks, controlChecks}
 use Rattle.model.specs.Data.{status}
-use Rattle.model.specs.Device.{Request, Attach, Control, Admit, Part, KeyAnswer, Key, Finish, Outcome, noJob, answered, handed, outcome, checksOf, checks, reply}
+use Rattle.model.specs.Device.{Request, Attach, Control, Admit, Part, KeyAnswer, Key, Finish, outcome, checksOf, checks, reply}
 use Rattle.laws.specs.Judge.{Passed, passed-first, holds-at}
-use Rattle.laws.specs.Effect.{replied, checks-passed}
-use Rattle.demands.specs.Statement.{LastByte, Given, NotGiven, Gets}
+use Rattle.laws.specs.Effect.{checks-passed}
+use Rattle.demands.specs.Statement.{Given, NotGiven, Gets}
 use Rattle.demands.specs.Demand1.{last-byte}
 
 -- ---- a call whose checks all hold

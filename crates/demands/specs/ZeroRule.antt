@@ -174,13 +174,17 @@ zero-of w v n a i h e =
     let here : getD (cells cellFrom l (w .store)) s noCell ≡ cell = getD-cells cellFrom l (w .store) s free noCell (omega arith) in
     let s-cell : s < length (cells cellFrom l (w .store)) = omega (arith, length-cells cellFrom l (w .store)) in
     let clean : Clean cell = subst Clean here (All-at Clean (stateOf w .cells) s noCell a s-cell) in
-    let good : Good (setting w) (w .table .guests) cell = subst (Good (setting w) (w .table .guests)) here (All-at (Good (setting w) (w .table .guests)) (stateOf w .cells) s noCell (v .good) s-cell) in
+    let good : Whole cell = subst Whole here (All-at Whole (stateOf w .cells) s noCell (v .good) s-cell) in
     let z = clean j (omega arith) (free-key c (area s (w .store)) good e) in
     let m : 128 * s + j ≡ i = omega arith in
     ap (λ (k : ℕ). getD (w .store) k 0) (sym m) ∙ sym (getD-drop (128 * s) (w .store) j 0) ∙ sym (getD-take 128 (drop (128 * s) (w .store)) j 0 (omega arith)) ∙ z
   where
+    -- a live session if held
+    Whole : Cell → Type 0
+    Whole = Good (setting w) (w .table .guests)
+
     -- a held slot is live, so its key is all that a live session's key has there
-    free-key : (c : Place) (b : List ℕ) → Good (setting w) (w .table .guests) (cellFrom c b)
+    free-key : (c : Place) (b : List ℕ) → Whole (cellFrom c b)
         → liveByte (w .table) c (i % areaSize) ≡ false → c .held && keyByte (c .session) (i % areaSize) ≡ false
     free-key c b good e = go (c .held) refl
       where

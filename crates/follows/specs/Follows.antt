@@ -51,8 +51,11 @@ full-slots w g =
       holds-slots w g,
       total-slots w,
       count-cells cellFrom isFree Cells.isFree (λ c a. refl) (slotsOf (w .table)) (w .store),
-      sum-same 8 (except g (Cells.unmet (stateOf w))) (except g (unmet (w .table))) (except-same g (Cells.unmet (stateOf w)) (unmet (w .table)) (λ h d. ap (λ n. guestAt (w .table) h .reserve - n) (holds-slots w h))),
+      sum-same 8 (except g (Cells.unmet (stateOf w))) (except g (unmet (w .table))) same-owed,
     )
+  where
+    same-owed : (h : ℕ) → except g (Cells.unmet (stateOf w)) h ≡ except g (unmet (w .table)) h
+    same-owed = except-same g (Cells.unmet (stateOf w)) (unmet (w .table)) (λ h d. ap (λ n. guestAt (w .table) h .reserve - n) (holds-slots w h))
 
 -- a live session is that of its slot
 find-slots : (w : World) (g n : ℕ) → Cells.view (stateOf w) g .find n ≡ find w g n
@@ -119,7 +122,11 @@ swap-follows p q w y x a e z ha f =
     rw (← put-flat (index p l) a b, swap-set q (cellFrom x a) (cells cellFrom l b), index-cells cellFrom p q e l b)
     (set-cells cellFrom l b (index p l) x a ha (omega (arith, place-in p q w y e z f, z .slots)) (omega (arith, z .slots, z .store)))
 
--- the store keeps its length
+-- and the store keeps its length
+length-follows : (p : Place → Bool) (q : Cell → Bool) (w : World) (y : Cell) (a : List ℕ) → Plain p q → Sized w → length a ≡ areaSize → first q (stateOf w .cells) ≡ some y
+    → length (withArea (w .store) (index p (slotsOf (w .table))) a) ≡ length (w .store)
+length-follows p q w y a e z ha f = length-withArea (w .store) (index p (slotsOf (w .table))) a ha (omega (arith, z .store, place-in p q w y e z f))
+
 length-after : (w : World) (g : ℕ) (a : Act) → Inv (stateOf w) → Ready (stateOf w) g a → length (storeAfter (w .table) (w .store) g a) ≡ length (w .store)
 unfolding storeAfter
 length-after w g (refuse n) v f = refl
@@ -128,11 +135,9 @@ length-after w g attach v f =
     let z = sized w v (f .1) in
     length-wipe (owned g) (slotsOf (w .table)) (w .store) (omega (arith, z .slots, z .store))
 length-after w g (create e) v f =
-    let z = sized-by w g v (f .0 .attached) in
-    length-withArea (w .store) (freeAt (w .table)) (e .key) (f .0 .sound .whole) (omega (arith, z .store, place-in isFree Cells.isFree w (f .1 .cell) (λ c a. refl) z (f .1 .free)))
+    length-follows isFree Cells.isFree w (f .1 .cell) (e .key) (λ c a. refl) (sized-by w g v (f .0 .attached)) (f .0 .sound .whole) (f .1 .free)
 length-after w g (destroy n) v f =
-    let z = sized-by w g v (f .attached) in
-    length-withArea (w .store) (liveAt (w .table) g n) zeros (length-replicate {A = ℕ} areaSize 0) (omega (arith, z .store, place-in (live (w .table) g n) (lives w g n) w (f .cell) (λ c a. refl) z (f .found)))
+    length-follows (live (w .table) g n) (lives w g n) w (f .cell) zeros (λ c a. refl) (sized-by w g v (f .attached)) (length-replicate {A = ℕ} areaSize 0) (f .found)
 
 -- the slots after an attach and after a create
 slots-attach : (t : Table) (g : ℕ) (r : Guest) → slotsOf (withGuest (without t g) g r) ≡ map (released g) (slotsOf t)

@@ -10,7 +10,7 @@ use borrow.Author.Tests.{eqb-true, eqb-false, ne-eqb, lt-leb}
 use Rattle.lists.specs.Seek.{count, count-not}
 use Rattle.lists.specs.Sum.{sum-at}
 use Rattle.history.specs.Cells.{State, view, guestOf, holds, unmet, full, isFree, isHeld}
-use Rattle.model.specs.View.{Setting, View}
+use Rattle.model.specs.View.{Setting, View, noRoom}
 use Rattle.model.specs.Calls.{only}
 use Rattle.model.specs.Act.{Act, refuse, pass, attach, create, destroy, answerOf}
 use Rattle.history.specs.Apply.{gate, viewAfter}
@@ -21,7 +21,7 @@ use Rattle.history.specs.Rules.{Rules, Call, wish, act, next, outcomes, 
 -- ---- room for a guest below its reserve
 
 pub roomy : (s : State) (g : ℕ) → Inv s → g < 8 → holds s g < guestOf s g .reserve → full s g ≡ false
-unfolding full
+unfolding full noRoom
 roomy s g v b h =
     rw (
       lt-leb (guestOf s g .cap) (holds s g) (omega (arith, v .shares g)),

@@ -1,6 +1,6 @@
 -- The room check on an act, and what an act does to the state of the theorems and to the view of its guest.
 -- Assumes nothing.
-use mathlib.Core.Bool.{Bool, true, cond}
+use mathlib.Core.Bool.{Bool, cond}
 use mathlib.Core.Option.{none, some}
 use mathlib.Core.List.{map}
 use Prim.Native.Nat.{ℕ, suc, _-_}

@@ -1,17 +1,17 @@
 -- The state that the theorems speak of: each slot with its key area. The table and flat store follow it (crate follows).
 -- Assumes nothing.
-use mathlib.Core.Bool.{Bool, false, not, _&&_, _||_}
+use mathlib.Core.Bool.{Bool, _&&_}
 use mathlib.Core.Option.{Option, none, some}
 use mathlib.Core.List.{List}
-use Prim.Native.Nat.{ℕ, _+_, _-_}
-use lib.Dec.{eqb, leb, ltb}
+use Prim.Native.Nat.{ℕ, _-_}
+use lib.Dec.{eqb}
 use lib.ListN.{getD}
 use Rattle.lists.specs.Seek.{count, first}
 use Rattle.lists.specs.Sum.{sumTo, except}
 use Rattle.model.specs.declared.Guest.{Guest}
-use Rattle.model.specs.Session.{slotCount, Place, free, newGuest, zeros, Entry}
+use Rattle.model.specs.Session.{Place, free, newGuest, zeros, Entry}
 use Rattle.model.specs.View as Model
-use Rattle.model.specs.View.{View, Setting, sized, owned, given}
+use Rattle.model.specs.View.{View, Setting, sized, owned, given, noRoom}
 
 -- a slot with its key area
 pub record Cell : Type 0 where
@@ -66,18 +66,9 @@ total s = count isHeld (s .cells)
 abbrev pub owed : State → ℕ → ℕ
 owed s g = sumTo 8 (except g (unmet s))
 
-abbrev pub atCap : State → ℕ → Bool
-atCap s g = leb (guestOf s g .cap) (holds s g)
-
-abbrev pub crowded : State → ℕ → Bool
-crowded s g = leb (guestOf s g .reserve) (holds s g) && leb slotCount (total s + owed s g)
-
-abbrev pub noneFree : State → Bool
-noneFree s = eqb (count isFree (s .cells)) 0
-
--- no room for one more session of guest g
+-- a create of guest g is NOSPC
 unfoldable pub full : State → ℕ → Bool
-full s g = atCap s g || crowded s g || noneFree s
+full s g = noRoom (guestOf s g) (holds s g) (total s) (owed s g) (count isFree (s .cells))
 
 -- ---- a guest's view
 

@@ -1,18 +1,19 @@
 -- The facts behind an act that changes the table.
 -- Assumes nothing.
 use mathlib.Core.Path.{_≡_, refl}
-use mathlib.Core.Bool.{Bool, true, false, _||_}
+use mathlib.Core.Bool.{Bool, true, false, _&&_, _||_}
 use mathlib.Core.Option.{Option, none, some}
 use mathlib.Core.List.{List, [], _∷_}
 use Prim.Native.Nat.{ℕ, zero, suc, _+_, _≤_, _<_}
 use native.Mathlib.Omega.{arith}
+use lib.Dec.{eqb, leb}
 use borrow.Author.Tests.{eqb-false, leb-false, le-leb}
 use lib.ListN.{length, getD}
 use Rattle.lists.specs.Test.{false-true, or-false}
 use Rattle.lists.specs.Seek.{count, first, first-some, none-some}
 use Rattle.model.specs.declared.Guest.{Guest}
-use Rattle.model.specs.View.{Setting, View}
-use Rattle.history.specs.Cells.{State, Cell, stored, guestOf, holds, total, owed, atCap, crowded, noneFree, full, isFree, matches, entryOf, view}
+use Rattle.model.specs.View.{Setting, View, noRoom}
+use Rattle.history.specs.Cells.{State, Cell, stored, guestOf, holds, total, owed, full, isFree, matches, entryOf, view}
 use Rattle.model.specs.Session.{areaSize, lastNumber, slotCount, Entry, accepts, newGuest}
 use Rattle.history.specs.Apply.{gate}
 use Rattle.model.specs.Act.{Act, refuse, pass, attach, create, destroy}
@@ -65,14 +66,20 @@ Ready s g (create e) = Creatable (s .setting) (view s g) e × Room s g
 Ready s g (destroy n) = Found s g n
 
 pub room : (s : State) (g : ℕ) → full s g ≡ false → Room s g
-unfolding full
+unfolding full noRoom
 room s g e =
-    let a = or-false (atCap s g || crowded s g) (noneFree s) e in
-    let b = or-false (atCap s g) (crowded s g) (a .0) in
+    let a = or-false (atCap || crowded) (eqb (count isFree (s .cells)) 0) e in
+    let b = or-false atCap crowded (a .0) in
     let c = first-some isFree (s .cells) (omega (arith, eqb-false (count isFree (s .cells)) 0 (a .1))) in
     record { below = leb-false (guestOf s g .cap) (holds s g) (b .0); spare = spare (b .1); cell = c .0; free = c .1 }
   where
-    spare : crowded s g ≡ false → guestOf s g .reserve ≤ holds s g → total s + owed s g < slotCount
+    atCap : Bool
+    atCap = leb (guestOf s g .cap) (holds s g)
+
+    crowded : Bool
+    crowded = leb (guestOf s g .reserve) (holds s g) && leb slotCount (total s + owed s g)
+
+    spare : crowded ≡ false → guestOf s g .reserve ≤ holds s g → total s + owed s g < slotCount
     spare q h = leb-false slotCount (total s + owed s g) (rw (le-leb (guestOf s g .reserve) (holds s g) h) at q)
 
 found-cell : (o : Option Cell) (e : Entry) → entryOf o ≡ some e → (c : Cell) × (o ≡ some c)

@@ -6,9 +6,7 @@ use mathlib.Core.Option.{Option, none, some}
 use mathlib.Core.List.{List, [], _∷_, _++_, map}
 use Prim.Native.Nat.{ℕ, zero, suc, _+_, _≤_, _<_}
 use native.Mathlib.Omega.{arith}
-use lib.ListN.{length, replicate, set, getD, take}
-use lib.Seq.{take-suc}
-use native.Mathlib.Numerals.{add-one}
+use lib.ListN.{length, replicate, set, getD}
 
 -- a test as a number
 abbrev pub one : Bool → ℕ

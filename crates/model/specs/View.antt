@@ -59,12 +59,14 @@ abbrev pub owed : Table → ℕ → ℕ
 owed t g = sumTo 8 (except g (unmet t))
 
 -- "A create is NOSPC exactly if the guest holds its cap; or it holds at least its reserve, and all held slots plus the other guests' unmet
--- reserves reach 128; or no slot is free"
+-- reserves reach 128; or no slot is free": of a guest with record r that holds `held`, where all hold `all`, the others are owed `others` and
+-- `spare` slots are free
+unfoldable pub noRoom : Guest → ℕ → ℕ → ℕ → ℕ → Bool
+noRoom r held all others spare = leb (r .cap) held || leb (r .reserve) held && leb slotCount (all + others) || eqb spare 0
+
+-- a create of guest g is NOSPC
 unfoldable pub full : Table → ℕ → Bool
-full t g =
-    leb (guestAt t g .cap) (holds t g)
-    || leb (guestAt t g .reserve) (holds t g) && leb slotCount (total t + owed t g)
-    || eqb (count isFree (slotsOf t)) 0
+full t g = noRoom (guestAt t g) (holds t g) (total t) (owed t g) (count isFree (slotsOf t))
 
 -- ---- what a guest sees: all that its answers depend on, but for the room
 
