@@ -15,12 +15,13 @@ use Rattle.model.specs.Bytes.{le}
 use Rattle.model.specs.Answer.{ok, err, badmsg, badGuest, noOutcome, badStore, badShares, badConfig, Check, firstFail, granted, controlOutcome, dataOutcome, controlBytes, dataBytes}
 use Rattle.model.specs.Lens.{orIn}
 use Rattle.model.specs.Session.{World}
-use Rattle.model.specs.View.{Setting, View, setting, view, full}
+use Rattle.model.specs.View.{Setting, View, setting, view, full, sized, present}
 use Rattle.model.specs.Act.{refuse, pass, judge, tableAfter, storeAfter, after}
-use Rattle.model.specs.Control.{isCreate, createChecks, destroyChecks, controlChecks}
+use Rattle.model.specs.Control.{placeChecks, controlChecks}
 use Rattle.model.specs.Data.{status, finishChecks}
 use Rattle.model.specs.Setup.{setUpChecks, setUpAnswer, setUp}
 use Rattle.model.specs.Device.{Request, Attach, Control, Admit, Part, KeyAnswer, Key, Finish, checksOf, checks, outcome, reply, act, next, answered}
+use Rattle.laws.specs.Kind.{by-kind}
 use Rattle.laws.specs.Judge.{Passed, passed-first}
 use Rattle.laws.specs.Effect.{refused-next}
 use Rattle.demands.specs.Statement.{answerNumbers, buffer, LastByte, Refusal, Demand1, SetUpRefused}
@@ -44,13 +45,9 @@ first-in l (c ∷ cs) z h =
     go false h ih = h
 
 numbers-of : (k : Setting) (g : ℕ) (v : View) (f : Bool) (q : Request) → numbersIn answerNumbers (checksOf k g v f q) ≡ true
-unfolding checksOf controlChecks
+unfolding checksOf
 numbers-of k g v f (Attach word) = refl
-numbers-of k g v f (Control r w) = go (isCreate r)
-  where
-    go : (b : Bool) → numbersIn answerNumbers (cond b (createChecks k g v f r (length w)) (destroyChecks k g v r (length w))) ≡ true
-    go true = refl
-    go false = refl
+numbers-of k g v f (Control r w) = by-kind (λ t cs a. numbersIn answerNumbers (cs f) ≡ true) k g v r (length w) (λ e. refl) (λ e. refl)
 numbers-of k g v f (Admit r w) = refl
 numbers-of k g v f (Part x r w) = refl
 numbers-of k g v f (KeyAnswer n) = refl
@@ -101,20 +98,19 @@ low-passed c cs h = go (c .0) refl
 
 -- then a control request has 16 or one writable byte
 control-place : (k : Setting) (g : ℕ) (v : View) (f : Bool) (r : List ℕ) (room : ℕ) → firstFail (controlChecks k g v f r room) < badGuest → (room ≡ 16) ⊎ (room ≡ 1)
-unfolding controlChecks
-control-place k g v f r room = go (isCreate r)
+control-place k g v f r room = by-kind (λ t cs a. firstFail (cs f) < badGuest → (room ≡ 16) ⊎ (room ≡ 1)) k g v r room (λ e. third _) (λ e. third _)
   where
     one-of : (a b : Bool) → eqb room 16 ≡ a → eqb room 1 ≡ b → a || b ≡ true → (room ≡ 16) ⊎ (room ≡ 1)
     one-of true b p q e = inl (eqb-true room 16 p)
     one-of false true p q e = inr (eqb-true room 1 q)
     one-of false false p q e = absurd (false-true e)
 
-    third : (a b c : Check) (cs : List Check) → badGuest ≤ a .1 → badGuest ≤ b .1 → badGuest ≤ c .1 → firstFail (a ∷ b ∷ c ∷ cs) < badGuest → c .0 ≡ true
-    third a b c cs x y z l = low-passed c cs z (low-passed b (c ∷ cs) y (low-passed a (b ∷ c ∷ cs) x l .1) .1) .0
-
-    go : (t : Bool) → firstFail (cond t (createChecks k g v f r room) (destroyChecks k g v r room)) < badGuest → (room ≡ 16) ⊎ (room ≡ 1)
-    go true l = one-of (eqb room 16) (eqb room 1) refl refl (third _ _ _ _ (omega arith) (omega arith) (omega arith) l)
-    go false l = one-of (eqb room 16) (eqb room 1) refl refl (third _ _ _ _ (omega arith) (omega arith) (omega arith) l)
+    third : (cs : List Check) → firstFail (placeChecks (k .store) (present g (v .guest)) room ++ cs) < badGuest → (room ≡ 16) ⊎ (room ≡ 1)
+    third cs l =
+        let a = low-passed (sized (k .store), badStore) _ (omega arith) l in
+        let b = low-passed (present g (v .guest), badGuest) _ (omega arith) (a .1) in
+        let c = low-passed (eqb room 16 || eqb room 1, noOutcome) cs (omega arith) (b .1) in
+        one-of (eqb room 16) (eqb room 1) refl refl (c .0)
 
 -- and a data request or a finish is of a guest that is there, and has one byte or more
 place-low : (here : Bool) (room : ℕ) (cs : List Check) → firstFail (finishChecks here room ++ cs) < badGuest → Passed (finishChecks here room)

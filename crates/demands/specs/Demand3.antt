@@ -1,21 +1,21 @@
 -- Demand 3, of every list of calls after any set-up, good or refused.
 -- Assumes nothing.
 use mathlib.Core.Path.{_≡_, refl, sym, ap, _∙_, subst}
-use mathlib.Core.Bool.{Bool, true, false, cond}
+use mathlib.Core.Bool.{true, false}
 use mathlib.Core.List.{List, [], _∷_}
 use Prim.Native.Nat.{ℕ, _≤_, _<_}
 use native.Mathlib.Omega.{arith}
 use lib.ListN.{length}
 use borrow.Author.Tests.{lt-ltb}
 use Rattle.lists.specs.Test.{false-true}
-use Rattle.model.specs.Answer.{ok, err, nospc, firstFail}
+use Rattle.model.specs.Answer.{ok, err, nospc, Check, firstFail}
 use Rattle.model.specs.Session.{lastNumber, World, guestAt}
 use Rattle.model.specs.View.{Setting, View, setting, view, holds, total}
-use Rattle.model.specs.Act.{create, destroy, pass, attach, judge, answerOf}
+use Rattle.model.specs.Act.{create, destroy, judge, answerOf}
 use Rattle.model.specs.Setup.{setUp}
 use Rattle.model.specs.Bytes.{le64}
-use Rattle.model.specs.Control.{isCreate, newEntry, formChecks, numbersLeft, createChecks, destroyChecks, controlChecks}
-use Rattle.model.specs.Device.{Request, Attach, Control, Admit, Part, KeyAnswer, Key, Finish, checksOf, outcome, act, reply, next}
+use Rattle.model.specs.Control.{isCreate, newEntry, formChecks, numbersLeft, createChecks, destroyChecks, controlChecks, controlAct}
+use Rattle.model.specs.Device.{Request, Attach, Control, Admit, Part, KeyAnswer, Key, Finish, checksOf, asks, outcome, act, reply, next}
 use Rattle.model.specs.Calls.{Call, Past, begun, pastOf, run, only, WellFormed}
 use Rattle.history.specs.Cells as Cells
 use Rattle.history.specs.Cells.{State}
@@ -25,6 +25,7 @@ use Rattle.history.specs.Alone.{Creates, Modest}
 use Rattle.history.specs.Past.{Told}
 use Rattle.history.specs.Demand.{Demand, demand}
 use Rattle.follows.specs.Follows.{stateOf, holds-slots, total-slots, view-slots}
+use Rattle.laws.specs.Kind.{by-kind}
 use Rattle.laws.specs.Judge.{Passed, first-passed, passed-first, passed-front, passed-both, judge-passed}
 use Rattle.laws.specs.Effect.{act-first}
 use Rattle.demands.specs.Statement.{Within, Demand3}
@@ -37,35 +38,43 @@ use Rattle.demands.specs.History.{same-past}
 -- ---- well-formed creates
 
 -- a control request that asks for a create is well-formed
-control-formed : (k : Setting) (g : ℕ) (v : View) (r : List ℕ) (b : ℕ)
-    → Creates (judge (controlChecks k g v false r b) (cond (isCreate r) (create (newEntry r)) (destroy (le64 r 16))))
+control-formed : (k : Setting) (g : ℕ) (v : View) (r : List ℕ) (b : ℕ) → Creates (judge (controlChecks k g v false r b) (controlAct r))
     → (isCreate r ≡ true) × (firstFail (formChecks k g v r b) ≡ ok)
-unfolding controlChecks
-control-formed k g v r b h = go (isCreate r) refl h
+control-formed k g v r b =
+    by-kind (λ t cs a. Creates (judge (cs false) a) → (t ≡ true) × (firstFail (formChecks k g v r b) ≡ ok)) k g v r b
+    (λ e h. (refl, passed-first form (passed-front form ((numbersLeft v, err) ∷ (true, nospc) ∷ []) (creates-judge (createChecks k g v false r b) (create (newEntry r)) h .0))))
+    (λ e h. absurd (creates-judge (destroyChecks k g v r b) (destroy (le64 r 16)) h .1))
   where
-    go : (t : Bool) → isCreate r ≡ t → Creates (judge (cond t (createChecks k g v false r b) (destroyChecks k g v r b)) (cond t (create (newEntry r)) (destroy (le64 r 16))))
-        → (isCreate r ≡ true) × (firstFail (formChecks k g v r b) ≡ ok)
-    go true e h =
-        let p = creates-judge (createChecks k g v false r b) (create (newEntry r)) h .0 in
-        (e, passed-first (formChecks k g v r b) (passed-front (formChecks k g v r b) ((numbersLeft v, err) ∷ (true, nospc) ∷ []) p))
-    go false e h = absurd (creates-judge (destroyChecks k g v r b) (destroy (le64 r 16)) h .1)
+    form : List Check
+    form = formChecks k g v r b
 
 -- no other request asks for one
+only-control : (X : Type 0) (q : Request) → ((r b : List ℕ) → q ≡ Control r b → X) → Creates (asks q) → X
+only-control X (Attach word) f h = absurd h
+only-control X (Control r b) f h = f r b refl
+only-control X (Admit r b) f h = absurd h
+only-control X (Part x r b) f h = absurd h
+only-control X (KeyAnswer n) f h = absurd h
+only-control X (Key n) f h = absurd h
+only-control X (Finish op verdict b) f h = absurd h
+
 creates-formed : (X : Type 0) (w : World) (g : ℕ) (q : Request) → ((r b : List ℕ) → q ≡ Control r b → WellFormed w g r b → X) → Creates (decide (setting w) g (view w g) q) → X
 unfolding checksOf
-creates-formed X w g (Control r b) f h = f r b refl (control-formed (setting w) g (view w g) r (length b) h)
-creates-formed X w g (Attach word) f h = absurd (creates-judge (checksOf (setting w) g (view w g) false (Attach word)) attach h .1)
-creates-formed X w g (Admit r b) f h = absurd (creates-judge (checksOf (setting w) g (view w g) false (Admit r b)) pass h .1)
-creates-formed X w g (Part x r b) f h = absurd (creates-judge (checksOf (setting w) g (view w g) false (Part x r b)) pass h .1)
-creates-formed X w g (KeyAnswer n) f h = absurd (creates-judge (checksOf (setting w) g (view w g) false (KeyAnswer n)) pass h .1)
-creates-formed X w g (Key n) f h = absurd (creates-judge (checksOf (setting w) g (view w g) false (Key n)) pass h .1)
-creates-formed X w g (Finish op verdict b) f h = absurd (creates-judge (checksOf (setting w) g (view w g) false (Finish op verdict b)) pass h .1)
+creates-formed X w g q f h = only-control X q formed (creates-judge (checksOf (setting w) g (view w g) false q) (asks q) h .1)
+  where
+    formed : (r b : List ℕ) → q ≡ Control r b → X
+    formed r b e =
+        f r b e (control-formed (setting w) g (view w g) r (length b) (subst (λ (x : Request). Creates (decide (setting w) g (view w g) x)) e h))
 
 -- a well-formed create with numbers left asks for its act, which answers 0
 formed-creates : (w : World) (g : ℕ) (r b : List ℕ) → WellFormed w g r b → guestAt (w .table) g .last < lastNumber
     → Creates (decide (setting w) g (view w g) (Control r b)) × (answerOf (decide (setting w) g (view w g) (Control r b)) ≡ ok)
-unfolding checksOf controlChecks
-formed-creates w g r b f n = go (isCreate r) (f .0)
+unfolding checksOf
+formed-creates w g r b f n =
+    by-kind (λ t cs a. t ≡ true → Creates (judge (cs false) a) × (answerOf (judge (cs false) a) ≡ ok)) k g v r (length b)
+    (λ e h. (subst Creates (sym done) tt, ap answerOf done))
+    (λ e h. absurd (false-true h))
+    (f .0)
   where
     k : Setting
     k = setting w
@@ -80,12 +89,6 @@ formed-creates w g r b f n = go (isCreate r) (f .0)
 
     done : judge (createChecks k g v false r (length b)) (create (newEntry r)) ≡ create (newEntry r)
     done = judge-passed (createChecks k g v false r (length b)) (create (newEntry r)) passed
-
-    go : (t : Bool) → t ≡ true
-        → Creates (judge (cond t (createChecks k g v false r (length b)) (destroyChecks k g v r (length b))) (cond t (create (newEntry r)) (destroy (le64 r 16))))
-        × (answerOf (judge (cond t (createChecks k g v false r (length b)) (destroyChecks k g v r (length b))) (cond t (create (newEntry r)) (destroy (le64 r 16)))) ≡ ok)
-    go true e = (subst Creates (sym done) tt, ap answerOf done)
-    go false e = absurd (false-true e)
 
 -- ---- the theorems' premise
 

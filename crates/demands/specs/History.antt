@@ -13,7 +13,7 @@ use Rattle.model.specs.Answer.{ok, firstFail, granted, controlOutcome, controlB
 use Rattle.model.specs.Session.{lastNumber, World}
 use Rattle.model.specs.View.{Setting, View, setting, view, full}
 use Rattle.model.specs.Act.{Act, refuse, pass, attach, create, destroy, answerOf}
-use Rattle.model.specs.Control.{isCreate, newEntry, createChecks, destroyChecks, controlChecks}
+use Rattle.model.specs.Control.{isCreate, createChecks, controlChecks, controlAct}
 use Rattle.model.specs.Device.{Request, Attach, Control, Admit, Part, KeyAnswer, Key, Finish, checksOf, checks, asks, outcome, act, reply, next}
 use Rattle.model.specs.Calls.{Call, Past, created, destroyed, noted, past}
 use Rattle.history.specs.Cells as Cells
@@ -22,8 +22,10 @@ use Rattle.history.specs.Past as Past
 use Rattle.history.specs.Invariant.{Inv}
 use Rattle.follows.specs.Follows.{stateOf, view-slots}
 use Rattle.laws.specs.Numbers.{le64-le}
+use Rattle.laws.specs.Kind.{by-kind}
 use Rattle.laws.specs.Judge.{Passed, holds-at}
 use Rattle.laws.specs.Effect.{act-first, act-granted, checks-passed}
+use Rattle.demands.specs.Outcomes.{control-room}
 use Rattle.demands.specs.Instance.{rules}
 use Rattle.demands.specs.Steps.{same-act, same-next, inv-step}
 
@@ -33,24 +35,24 @@ named-number : (b : List ℕ) (n : ℕ) → length b ≡ 16 → n < lastNumber �
 unfolding controlBytes controlOutcome le
 named-number b n e h = rw e (le64-le (suc n) (le 4 ok ++ le 4 0) (omega arith))
 
-noted-control : (p : Past) (k : Setting) (g : ℕ) (v : View) (f : Bool) (r b : List ℕ) (t : Bool)
-    → Passed (cond t (createChecks k g v f r (length b)) (destroyChecks k g v r (length b))) → isCreate r ≡ t
-    → Past.noted p v (cond t (create (newEntry r)) (destroy (le64 r 16)))
-    ≡ cond t (created (le64 (controlBytes b (cond t (suc (v .guest .last)) 0) ok) 0) p) (destroyed p)
+noted-control : (p : Past) (k : Setting) (g : ℕ) (v : View) (f : Bool) (r b : List ℕ) → Passed (controlChecks k g v f r (length b))
+    → Past.noted p v (controlAct r) ≡ cond (isCreate r) (created (le64 (controlBytes b (cond (isCreate r) (suc (v .guest .last)) 0) ok) 0) p) (destroyed p)
 unfolding Past.noted
-noted-control p k g v f r b false q e = refl
-noted-control p k g v f r b true q e =
-    let room = eqb-true (length b) _ (holds-at (createChecks k g v f r (length b)) 5 q) ∙ ap (λ (t : Bool). cond t 16 1) e in
-    let left = ltb-true (v .guest .last) lastNumber (holds-at (createChecks k g v f r (length b)) 13 q) in
-    ap (λ (n : ℕ). created n p) (sym (named-number b (v .guest .last) room left))
+noted-control p k g v f r b h =
+    by-kind
+    (λ t cs a. Passed (cs f) → length b ≡ cond t 16 1 → Past.noted p v a ≡ cond t (created (le64 (controlBytes b (cond t (suc (v .guest .last)) 0) ok) 0) p) (destroyed p))
+    k g v r (length b)
+    (λ e q room. ap (λ (n : ℕ). created n p) (sym (named-number b (v .guest .last) room (ltb-true (v .guest .last) lastNumber (holds-at (createChecks k g v f r (length b)) 13 q)))))
+    (λ e q room. refl)
+    h (control-room k g v f r (length b) h)
 
 -- ---- one call
 
 -- a request that is done
 noted-done : (p : Past) (w : World) (g : ℕ) (q : Request) → Passed (checks w g q) → Past.noted p (view w g) (asks q) ≡ noted p q (outcome g (view w g) q ok)
-unfolding Past.noted noted outcome checks checksOf controlChecks
+unfolding Past.noted noted outcome checks checksOf
 noted-done p w g (Attach word) h = refl
-noted-done p w g (Control r b) h = noted-control p (setting w) g (view w g) (full (w .table) g) r b (isCreate r) h refl
+noted-done p w g (Control r b) h = noted-control p (setting w) g (view w g) (full (w .table) g) r b h
 noted-done p w g (Admit r b) h = refl
 noted-done p w g (Part x r b) h = refl
 noted-done p w g (KeyAnswer n) h = refl

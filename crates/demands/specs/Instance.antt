@@ -1,7 +1,7 @@
 -- The device is an instance of `Rules`: what it asks for, by every check but the room, is lawful.
 -- Assumes nothing.
 use mathlib.Core.Path.{_≡_, refl, _∙_}
-use mathlib.Core.Bool.{Bool, true, false, cond}
+use mathlib.Core.Bool.{Bool, true, false}
 use mathlib.Core.Option.{Option, none, some}
 use mathlib.Core.List.{List, [], _∷_, _++_}
 use Prim.Native.Nat.{ℕ, zero, suc}
@@ -16,11 +16,12 @@ use Rattle.model.specs.Algorithm.{mac}
 use Rattle.model.specs.Session.{areaSize, lastNumber, keyArea, areaOf, Entry, accepts}
 use Rattle.model.specs.View.{Setting, View, present}
 use Rattle.model.specs.Act.{Act, pass, attach, create, destroy, judge}
-use Rattle.model.specs.Control.{service, isCreate, asked, newEntry, formChecks, numbersLeft, createChecks, destroyChecks, controlChecks, ofService}
+use Rattle.model.specs.Control.{service, asked, newEntry, formChecks, numbersLeft, createChecks, destroyChecks, ofService}
 use Rattle.model.specs.Device.{Request, Attach, Control, Admit, Part, KeyAnswer, Key, Finish, Outcome, checksOf, asks, outcome}
 use Rattle.history.specs.Apply.{gate}
 use Rattle.history.specs.Lawful.{Lawful, Known, Creatable}
 use Rattle.history.specs.Rules.{Rules}
+use Rattle.laws.specs.Kind.{by-kind}
 use Rattle.laws.specs.Judge.{Passed, holds-at}
 use Rattle.demands.specs.Checks.{lawful-judge, gate-other, gate-create}
 
@@ -30,15 +31,12 @@ decide k g v q = judge (checksOf k g v false q) (asks q)
 
 -- the room check makes it what is done
 pub decided : (k : Setting) (g : ℕ) (v : View) (f : Bool) (q : Request) → gate f (decide k g v q) ≡ judge (checksOf k g v f q) (asks q)
-unfolding checksOf controlChecks
+unfolding checksOf
 decided k g v f (Attach word) = gate-other f (checksOf k g v f (Attach word)) attach refl
-decided k g v f (Control r w) = go (isCreate r)
-  where
-    go : (b : Bool)
-        → gate f (judge (cond b (createChecks k g v false r (length w)) (destroyChecks k g v r (length w))) (cond b (create (newEntry r)) (destroy (le64 r 16))))
-        ≡ judge (cond b (createChecks k g v f r (length w)) (destroyChecks k g v r (length w))) (cond b (create (newEntry r)) (destroy (le64 r 16)))
-    go true = gate-create f (formChecks k g v r (length w) ++ (numbersLeft v, err) ∷ []) (newEntry r)
-    go false = gate-other f (destroyChecks k g v r (length w)) (destroy (le64 r 16)) refl
+decided k g v f (Control r w) =
+    by-kind (λ t cs a. gate f (judge (cs false) a) ≡ judge (cs f) a) k g v r (length w)
+    (λ e. gate-create f (formChecks k g v r (length w) ++ (numbersLeft v, err) ∷ []) (newEntry r))
+    (λ e. gate-other f (destroyChecks k g v r (length w)) (destroy (le64 r 16)) refl)
 decided k g v f (Admit r w) = gate-other f (checksOf k g v f (Admit r w)) pass refl
 decided k g v f (Part x r w) = gate-other f (checksOf k g v f (Part x r w)) pass refl
 decided k g v f (KeyAnswer n) = gate-other f (checksOf k g v f (KeyAnswer n)) pass refl
@@ -91,14 +89,12 @@ destroy-lawful k g v r w p =
     live-of (service r) v (le64 r 16) (attached-of g v (holds-at (destroyChecks k g v r w) 1 p)) (holds-at (destroyChecks k g v r w) 8 p)
 
 pub lawful : (k : Setting) (g : ℕ) (v : View) (q : Request) → Lawful k g v (decide k g v q)
-unfolding checksOf controlChecks
+unfolding checksOf
 lawful k g v (Attach word) = lawful-judge k g v (checksOf k g v false (Attach word)) attach (λ p. (ltb-true g 8 (p .1 .0), p .0))
-lawful k g v (Control r w) = go (isCreate r)
-  where
-    go : (b : Bool)
-        → Lawful k g v (judge (cond b (createChecks k g v false r (length w)) (destroyChecks k g v r (length w))) (cond b (create (newEntry r)) (destroy (le64 r 16))))
-    go true = lawful-judge k g v (createChecks k g v false r (length w)) (create (newEntry r)) (create-lawful k g v r (length w))
-    go false = lawful-judge k g v (destroyChecks k g v r (length w)) (destroy (le64 r 16)) (destroy-lawful k g v r (length w))
+lawful k g v (Control r w) =
+    by-kind (λ t cs a. Lawful k g v (judge (cs false) a)) k g v r (length w)
+    (λ e. lawful-judge k g v (createChecks k g v false r (length w)) (create (newEntry r)) (create-lawful k g v r (length w)))
+    (λ e. lawful-judge k g v (destroyChecks k g v r (length w)) (destroy (le64 r 16)) (destroy-lawful k g v r (length w)))
 lawful k g v (Admit r w) = lawful-judge k g v (checksOf k g v false (Admit r w)) pass (λ p. tt)
 lawful k g v (Part x r w) = lawful-judge k g v (checksOf k g v false (Part x r w)) pass (λ p. tt)
 lawful k g v (KeyAnswer n) = lawful-judge k g v (checksOf k g v false (KeyAnswer n)) pass (λ p. tt)

@@ -1,6 +1,6 @@
 -- What each call gives its caller: demand 2's outcome bytes, jobs, parts and keys.
 -- Assumes nothing.
-use mathlib.Core.Path.{_≡_, refl, ap, _∙_}
+use mathlib.Core.Path.{_≡_, refl}
 use mathlib.Core.Logic.{_⊎_, inl, inr}
 use mathlib.Core.Bool.{Bool, true, false, cond}
 use mathlib.Core.List.{List, [], _∷_, _++_}
@@ -9,11 +9,12 @@ use lib.ListN.{length}
 use borrow.Author.Tests.{eqb-true, leb-true}
 use Rattle.model.specs.Bytes.{le}
 use Rattle.model.specs.Answer.{ok, firstFail, granted, controlOutcome, controlBytes, dataBytes}
-use Rattle.model.specs.Session.{World}
+use Rattle.model.specs.Session.{World, guestAt}
 use Rattle.model.specs.View.{Setting, View, setting, view, full}
 use Rattle.model.specs.Control.{isCreate, createChecks, destroyChecks, controlChecks}
 use Rattle.model.specs.Data.{status}
 use Rattle.model.specs.Device.{Request, Attach, Control, Admit, Part, KeyAnswer, Key, Finish, outcome, checksOf, checks, reply}
+use Rattle.laws.specs.Kind.{by-kind}
 use Rattle.laws.specs.Judge.{Passed, passed-first, holds-at}
 use Rattle.laws.specs.Effect.{checks-passed}
 use Rattle.demands.specs.Statement.{Given, NotGiven, Gets}
@@ -21,22 +22,25 @@ use Rattle.demands.specs.Demand1.{last-byte}
 
 -- ---- a call whose checks all hold
 
-control-given : (k : Setting) (g : ℕ) (v : View) (f : Bool) (r b : List ℕ) (t : Bool) → isCreate r ≡ t
-    → Passed (cond t (createChecks k g v f r (length b)) (destroyChecks k g v r (length b)))
-    → ((t ≡ true) × (controlBytes b (cond t (suc (v .guest .last)) 0) ok ≡ le 8 (suc (v .guest .last)) ++ le 4 ok ++ le 4 0))
-    ⊎ ((t ≡ false) × (controlBytes b (cond t (suc (v .guest .last)) 0) ok ≡ ok ∷ []))
+-- it has the writable length of its operation
+pub control-room : (k : Setting) (g : ℕ) (v : View) (f : Bool) (r : List ℕ) (room : ℕ) → Passed (controlChecks k g v f r room) → room ≡ cond (isCreate r) 16 1
+control-room k g v f r room =
+    by-kind (λ t cs a. Passed (cs f) → room ≡ cond (isCreate r) 16 1) k g v r room
+    (λ e p. eqb-true room _ (holds-at (createChecks k g v f r room) 5 p))
+    (λ e p. eqb-true room _ (holds-at (destroyChecks k g v r room) 5 p))
+
+-- and its outcome bytes
+control-given : (b : List ℕ) (n : ℕ) (t : Bool) → length b ≡ cond t 16 1
+    → ((t ≡ true) × (controlBytes b (cond t n 0) ok ≡ le 8 n ++ le 4 ok ++ le 4 0)) ⊎ ((t ≡ false) × (controlBytes b (cond t n 0) ok ≡ ok ∷ []))
 unfolding controlBytes controlOutcome
-control-given k g v f r b true e p =
-    let room = eqb-true (length b) _ (holds-at (createChecks k g v f r (length b)) 5 p) ∙ ap (λ (t : Bool). cond t 16 1) e in
-    inl (refl, rw room)
-control-given k g v f r b false e p =
-    let room = eqb-true (length b) _ (holds-at (destroyChecks k g v r (length b)) 5 p) ∙ ap (λ (t : Bool). cond t 16 1) e in
-    inr (refl, rw room)
+control-given b n true e = inl (refl, rw e)
+control-given b n false e = inr (refl, rw e)
 
 given-ok : (w : World) (g : ℕ) (q : Request) → Passed (checks w g q) → Given w g q (outcome g (view w g) q ok)
-unfolding outcome checks checksOf controlChecks dataBytes
+unfolding outcome checks checksOf dataBytes
 given-ok w g (Attach word) p = refl
-given-ok w g (Control r b) p = control-given (setting w) g (view w g) (full (w .table) g) r b (isCreate r) refl p
+given-ok w g (Control r b) p =
+    control-given b (suc (guestAt (w .table) g .last)) (isCreate r) (control-room (setting w) g (view w g) (full (w .table) g) r (length b) p)
 given-ok w g (Admit r b) p = (refl, refl)
 given-ok w g (Part x r b) p = (refl, refl)
 given-ok w g (KeyAnswer n) p = refl

@@ -17,7 +17,7 @@ use Rattle.model.specs.Answer.{ok, Check}
 use Rattle.model.specs.Algorithm.{cipher, hash, mac}
 use Rattle.model.specs.Session.{areaSize, storeSize, World, Session, Place, free, slotsOf, placeAt, area, keyStart, keyArea, areaOf, keyLen}
 use Rattle.model.specs.View.{Setting, View, setting, live}
-use Rattle.model.specs.Act.{Act, refuse, pass, attach, create, destroy, judge}
+use Rattle.model.specs.Act.{Act, refuse, create, destroy, judge}
 use Rattle.model.specs.Setup.{setUp, setUpAnswer, freshTable, configOf}
 use Rattle.model.specs.Control.{service, isCreate, asked, newEntry}
 use Rattle.model.specs.Device.{Request, Attach, Control, Admit, Part, KeyAnswer, Key, Finish, checksOf, asks}
@@ -127,18 +127,17 @@ fills-judge (c ∷ cs) a h = go (c .0) (fills-judge cs a h)
     go true ih = ih
     go false ih = tt
 
-fills-control : (r : List ℕ) (b : Bool) → Fills Clean (cond b (create (newEntry r)) (destroy (le64 r 16)))
-fills-control r true = clean-new r
-fills-control r false = tt
+fills-asks : (q : Request) → Fills Clean (asks q)
+fills-asks (Attach word) = tt
+fills-asks (Control r w) = both-ways (Fills Clean) (isCreate r) (create (newEntry r)) (destroy (le64 r 16)) (clean-new r) tt
+fills-asks (Admit r w) = tt
+fills-asks (Part x r w) = tt
+fills-asks (KeyAnswer n) = tt
+fills-asks (Key n) = tt
+fills-asks (Finish op verdict w) = tt
 
 fills : (k : Setting) (g : ℕ) (v : View) (q : Request) → Fills Clean (decide k g v q)
-fills k g v (Attach word) = fills-judge (checksOf k g v false (Attach word)) attach tt
-fills k g v (Control r w) = fills-judge (checksOf k g v false (Control r w)) (asks (Control r w)) (fills-control r (isCreate r))
-fills k g v (Admit r w) = fills-judge (checksOf k g v false (Admit r w)) pass tt
-fills k g v (Part x r w) = fills-judge (checksOf k g v false (Part x r w)) pass tt
-fills k g v (KeyAnswer n) = fills-judge (checksOf k g v false (KeyAnswer n)) pass tt
-fills k g v (Key n) = fills-judge (checksOf k g v false (Key n)) pass tt
-fills k g v (Finish op verdict w) = fills-judge (checksOf k g v false (Finish op verdict w)) pass tt
+fills k g v q = fills-judge (checksOf k g v false q) (asks q) (fills-asks q)
 
 -- ---- a good set-up
 

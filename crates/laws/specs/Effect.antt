@@ -7,6 +7,7 @@ use mathlib.Core.List.{List}
 use Prim.Native.Nat.{ℕ}
 use lib.Dec.{ltb}
 use lib.ListN.{length}
+use Rattle.lists.specs.Test.{both-ways}
 use Rattle.model.specs.Answer.{ok, firstFail}
 use Rattle.model.specs.Session.{World, slotsOf, guestAt}
 use Rattle.model.specs.View.{setting, view, full, find, liveAt, entryAt, sessionIn, present}
@@ -21,11 +22,7 @@ use Rattle.laws.specs.Judge.{Passed, answers-of, first-passed, judge-pas
 
 asks-ok : (q : Request) → answerOf (asks q) ≡ ok
 asks-ok (Attach word) = refl
-asks-ok (Control r w) = go (isCreate r)
-  where
-    go : (b : Bool) → answerOf (cond b (create (newEntry r)) (destroy (le64 r 16))) ≡ ok
-    go true = refl
-    go false = refl
+asks-ok (Control r w) = both-ways (λ a. answerOf a ≡ ok) (isCreate r) (create (newEntry r)) (destroy (le64 r 16)) refl refl
 asks-ok (Admit r w) = refl
 asks-ok (Part x r w) = refl
 asks-ok (KeyAnswer n) = refl

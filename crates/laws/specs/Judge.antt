@@ -11,8 +11,8 @@ use Rattle.lists.specs.Test.{and-true}
 use Rattle.model.specs.Answer.{ok, Check, firstFail}
 use Rattle.model.specs.View.{Setting, View}
 use Rattle.model.specs.Act.{Act, refuse, judge, answerOf}
-use Rattle.model.specs.Control.{isCreate, createChecks, destroyChecks, controlChecks}
 use Rattle.model.specs.Device.{Request, Attach, Control, Admit, Part, KeyAnswer, Key, Finish, checksOf}
+use Rattle.laws.specs.Kind.{by-kind}
 
 -- every check holds
 abbrev pub Passed : List Check → Type 0
@@ -80,13 +80,9 @@ judge-answer (c ∷ cs) a z = go (c .0) (judge-answer cs a z)
 -- ---- the checks of the calls: none answers 0
 
 pub answers-of : (k : Setting) (g : ℕ) (v : View) (f : Bool) (q : Request) → answers (checksOf k g v f q) ≡ true
-unfolding checksOf controlChecks
+unfolding checksOf
 answers-of k g v f (Attach word) = refl
-answers-of k g v f (Control r w) = go (isCreate r)
-  where
-    go : (b : Bool) → answers (cond b (createChecks k g v f r (length w)) (destroyChecks k g v r (length w))) ≡ true
-    go true = refl
-    go false = refl
+answers-of k g v f (Control r w) = by-kind (λ t cs a. answers (cs f) ≡ true) k g v r (length w) (λ e. refl) (λ e. refl)
 answers-of k g v f (Admit r w) = refl
 answers-of k g v f (Part x r w) = refl
 answers-of k g v f (KeyAnswer n) = refl

@@ -1,4 +1,5 @@
 pub mod Numbers
+pub mod Kind
 pub mod Judge
 pub mod Chain
 pub mod Effect
