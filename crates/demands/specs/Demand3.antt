@@ -117,6 +117,8 @@ demand3 config reserves caps store cs = record {
   history = λ g. omega (arith, held g, told g .holds);
   numbers = λ g. told g .numbers;
   range = λ g. omega (arith, told-here g .last, kept .numbers g);
+  attached = λ g. told-here g .attached;
+  last = λ g. told-here g .last;
 }
   where
     w : World

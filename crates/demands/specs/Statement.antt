@@ -173,6 +173,9 @@ pub record Demand3 (w : World) (cs : List (Call Request)) : Type 0 where
   pub same : (g : ℕ) → Within g w cs → outcomes g w cs ≡ outcomes g w (only g cs)
   -- the history rule: what a guest holds is its granted creates less its granted destroys since its last granted attach
   pub history : (g : ℕ) → holds (run w cs .table) g + pastOf g w cs .destroys ≡ pastOf g w cs .creates
-  -- and each granted create took the next session number, from 1 to at most 4,294,967,295
+  -- each granted create took the next session number, from 1 to at most 4,294,967,295
   pub numbers : (g : ℕ) → pastOf g w cs .last ≡ pastOf g w cs .creates
   pub range : (g : ℕ) → pastOf g w cs .last ≤ lastNumber
+  -- and the table knows of each guest what the history says: whether it is attached, and the last number given to it
+  pub attached : (g : ℕ) → guestAt (run w cs .table) g .attached ≡ pastOf g w cs .attached
+  pub last : (g : ℕ) → guestAt (run w cs .table) g .last ≡ pastOf g w cs .last

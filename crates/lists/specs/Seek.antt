@@ -3,7 +3,7 @@
 use mathlib.Core.Path.{_≡_, refl, ap}
 use mathlib.Core.Bool.{Bool, true, false, cond, not, _&&_}
 use mathlib.Core.Option.{Option, none, some}
-use mathlib.Core.List.{List, [], _∷_, _++_, map}
+use mathlib.Core.List.{List, [], _∷_, map}
 use Prim.Native.Nat.{ℕ, zero, suc, _+_, _≤_, _<_}
 use native.Mathlib.Omega.{arith}
 use lib.ListN.{length, replicate, set, getD}
@@ -202,10 +202,6 @@ module _ {A : Type 0} where
       go true true ih = omega arith
       go true false ih = omega arith
       go false d ih = omega arith
-
-  pub count-append : (p : A → Bool) (l m : List A) → count p (l ++ m) ≡ count p l + count p m
-  count-append p [] m = omega arith
-  count-append p (c ∷ cs) m = omega (arith, count-append p cs m)
 
   -- ---- places
 
