@@ -447,9 +447,9 @@ guest0 reserve cap last = by (λ t. withGuest t 0 (record { attached = true; res
 abbrev filled : ℕ → Fact → Fact
 filled g = by (λ t. record { config = t .config; slots = replicate 128 (slotOf (holding g 9 hmac)); guests = t .guests })
 
--- the configuration with these services
-abbrev serving : ℕ → Fact → Fact
-serving n = by (λ t. record { config = configOf (offerWith 8 n); slots = t .slots; guests = t .guests })
+-- another configuration
+abbrev offering : List ℕ → Fact → Fact
+offering k = by (λ t. record { config = configOf k; slots = t .slots; guests = t .guests })
 
 abbrev byHand : List Fact
 byHand =
@@ -498,10 +498,37 @@ byHand =
     ∷ with3 (aSession 0 4 1 16 99 9) (answers 0 (sending (cipherData 0 3 16 5 5) 6) 0)
     ∷ with3 (aSession 0 4 2 16 99 9) (answers 0 (sending (cipherData 0 3 16 5 5) 6) 4)
     ∷ with3 (aSession 2 2 9 20 20 9) (answers 0 (sending (hashData 512 3 10 20) 21) 0)
-    -- a service that is not offered: its sessions match nothing, and the others do
-    ∷ serving 13 (answers 0 (KeyAnswer 4) 4)
-    ∷ serving 13 (answers 0 (KeyAnswer 3) 0)
-    ∷ serving 13 (answers 0 (sending (hashData 256 4 0 20) 21) 3)
+    -- GCM and CHACHA20_POLY1305: IV 12 and its neighbours
+    ∷ with3 (aSession 3 1 1 16 16 0) (answers 0 (sending (aeadData 768 3 12 0 5 21 16) 22) 0)
+    ∷ with3 (aSession 3 1 1 16 16 0) (answers 0 (sending (aeadData 768 3 11 0 5 21 16) 22) 1)
+    ∷ with3 (aSession 3 1 1 16 16 0) (answers 0 (sending (aeadData 768 3 13 0 5 21 16) 22) 1)
+    ∷ with3 (aSession 3 3 2 32 16 2) (answers 0 (sending (aeadData 769 3 12 2 5 21 16) 22) 0)
+    ∷ with3 (aSession 3 3 2 32 16 2) (answers 0 (sending (aeadData 769 3 13 2 5 21 16) 22) 1)
+    -- hash not offered: its sessions match nothing, and the others do
+    ∷ offering (offerWith 8 13) (answers 0 (KeyAnswer 4) 4)
+    ∷ offering (offerWith 8 13) (answers 0 (KeyAnswer 3) 0)
+    ∷ offering (offerWith 8 13) (answers 0 (sending (hashData 256 4 0 20) 21) 3)
+    ∷ offering (offerWith 8 13) (answers 0 (asking (hashCreate 4 32)) 3)
+    ∷ offering (offerWith 8 13) (answers 0 (ending 259 4) 3)
+    -- a mask without AES_ECB, and one with a bit of an algorithm that the rules do not name
+    ∷ offering (offerWith 12 8) (answers 0 (asking (cipherCreate 2 1 16)) 3)
+    ∷ offering (offerWith 12 8) (answers 0 (asking (cipherCreate 3 1 16)) 0)
+    ∷ offering (offerWith 12 8) (answers 0 (KeyAnswer 7) 4)
+    ∷ offering (offerWith 12 255) (answers 0 (asking (cipherCreate 5 1 16)) 3)
+    -- key limits: cipher and AEAD keys have one, MAC keys the other
+    ∷ offering (offerWith 36 16) (answers 0 (asking (cipherCreate 3 1 16)) 0)
+    ∷ offering (offerWith 36 16) (answers 0 (asking (cipherCreate 3 1 24)) 1)
+    ∷ offering (offerWith 36 16) (answers 0 (asking (aeadCreate 1 1 16 0 24)) 1)
+    ∷ offering (offerWith 36 16) (answers 0 (asking (macCreate 26 8 24)) 0)
+    ∷ offering (offerWith 36 16) (answers 0 (KeyAnswer 5) 4)
+    ∷ offering (offerWith 40 16) (answers 0 (asking (macCreate 2 20 16)) 0)
+    ∷ offering (offerWith 40 16) (answers 0 (asking (macCreate 2 20 17)) 1)
+    ∷ offering (offerWith 40 16) (answers 0 (asking (cipherCreate 3 1 24)) 0)
+    -- a size limit of 30: what is read and written in sum
+    ∷ offering (take 48 offer ++ le 8 30) (answers 0 (sending (hashData 256 4 10 20) 21) 0)
+    ∷ offering (take 48 offer ++ le 8 30) (answers 0 (sending (hashData 256 4 11 20) 21) 1)
+    ∷ offering (take 48 offer ++ le 8 22) (answers 0 (sending ccm 11) 0)
+    ∷ offering (take 48 offer ++ le 8 21) (answers 0 (sending ccm 11) 1)
     ∷ []
 
 -- ---- that the bounds of demand 3 are reached
