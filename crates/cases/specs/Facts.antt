@@ -371,8 +371,13 @@ requests =
     ∷ (sending (start 768 3 1) 11, 4)
     ∷ (sending (start 0 1 1) 11, 1)
     ∷ (sending (start 0 1 1 ++ replicate 48 0) 11, 3)
+    ∷ (sending (set (cipherData 0 1 16 5 5) 64 2) 6, 3)
     -- the header's algo and padding are ignored
     ∷ (sending (set (set ccm 4 77) 20 88) 11, 0)
+    -- a destroy of a live session has 24 readable bytes
+    ∷ (ending 259 4, 0)
+    ∷ (Control (destroySession 259 4 ++ 0 ∷ []) (0 ∷ []), 1)
+    ∷ (Control (destroySession 259 4) (replicate 16 0), 1)
     -- key fetch and finish
     ∷ (KeyAnswer 0, 4)
     ∷ (KeyAnswer 1, 0)
