@@ -24,7 +24,7 @@ use Rattle.model.specs.Device.{Request, Attach, Control, Admit, Part, KeyAnswer
 use Rattle.laws.specs.Kind.{by-kind}
 use Rattle.laws.specs.Judge.{Passed, passed-first}
 use Rattle.laws.specs.Effect.{refused-next}
-use Rattle.demands.specs.Statement.{answerNumbers, buffer, LastByte, Refusal, Demand1, SetUpRefused}
+use Rattle.demands.specs.Statement.{numbersOf, buffer, LastByte, Refusal, Demand1, SetUpRefused}
 
 -- ---- the numbers
 
@@ -44,19 +44,21 @@ first-in l (c ∷ cs) z h =
     go true h ih = ih
     go false h ih = h
 
-numbers-of : (k : Setting) (g : ℕ) (v : View) (f : Bool) (q : Request) → numbersIn answerNumbers (checksOf k g v f q) ≡ true
+numbers-of : (k : Setting) (g : ℕ) (v : View) (f : Bool) (q : Request) → (orIn false ok (numbersOf q) ≡ true) × (numbersIn (numbersOf q) (checksOf k g v f q) ≡ true)
 unfolding checksOf
-numbers-of k g v f (Attach word) = refl
-numbers-of k g v f (Control r w) = by-kind (λ t cs a. numbersIn answerNumbers (cs f) ≡ true) k g v r (length w) (λ e. refl) (λ e. refl)
-numbers-of k g v f (Admit r w) = refl
-numbers-of k g v f (Part x r w) = refl
-numbers-of k g v f (KeyAnswer n) = refl
-numbers-of k g v f (Key n) = refl
-numbers-of k g v f (Finish op verdict w) = refl
+numbers-of k g v f (Attach word) = (refl, refl)
+numbers-of k g v f (Control r w) = (refl, by-kind (λ t cs a. numbersIn (numbersOf (Control r w)) (cs f) ≡ true) k g v r (length w) (λ e. refl) (λ e. refl))
+numbers-of k g v f (Admit r w) = (refl, refl)
+numbers-of k g v f (Part x r w) = (refl, refl)
+numbers-of k g v f (KeyAnswer n) = (refl, refl)
+numbers-of k g v f (Key n) = (refl, refl)
+numbers-of k g v f (Finish op verdict w) = (refl, refl)
 
-first-number : (w : World) (g : ℕ) (q : Request) → orIn false (firstFail (checks w g q)) answerNumbers ≡ true
+first-number : (w : World) (g : ℕ) (q : Request) → orIn false (firstFail (checks w g q)) (numbersOf q) ≡ true
 unfolding checks
-first-number w g q = first-in answerNumbers (checksOf (setting w) g (view w g) (full (w .table) g) q) refl (numbers-of (setting w) g (view w g) (full (w .table) g) q)
+first-number w g q =
+    let h = numbers-of (setting w) g (view w g) (full (w .table) g) q in
+    first-in (numbersOf q) (checksOf (setting w) g (view w g) (full (w .table) g) q) (h .0) (h .1)
 
 -- ---- the status that finish writes
 
@@ -166,7 +168,7 @@ demand-kept w g (Finish op verdict b) d = quiet w g (checks w g (Finish op verdi
 
 -- ---- demand 1
 
-demand-number : (w : World) (g : ℕ) (q : Request) → orIn false (reply w g q .answer) answerNumbers ≡ true
+demand-number : (w : World) (g : ℕ) (q : Request) → orIn false (reply w g q .answer) (numbersOf q) ≡ true
 unfolding reply outcome
 demand-number w g (Attach word) = first-number w g (Attach word)
 demand-number w g (Control r b) = first-number w g (Control r b)
@@ -179,8 +181,8 @@ demand-number w g (Finish op verdict b) = go (granted n) (first-number w g (Fini
     n : ℕ
     n = firstFail (checks w g (Finish op verdict b))
 
-    go : (t : Bool) → orIn false n answerNumbers ≡ true → orIn false (cond t (answered (status op verdict) (dataOutcome b (status op verdict))) (answered n b) .answer) answerNumbers ≡ true
-    go true h = status-cases (λ (s : ℕ). orIn false s answerNumbers ≡ true) op verdict refl refl refl
+    go : (t : Bool) → orIn false n (numbersOf (Finish op verdict b)) ≡ true → orIn false (cond t (answered (status op verdict) (dataOutcome b (status op verdict))) (answered n b) .answer) (numbersOf (Finish op verdict b)) ≡ true
+    go true h = status-cases (λ (s : ℕ). orIn false s (numbersOf (Finish op verdict b)) ≡ true) op verdict refl refl refl
     go false h = h
 
 demand-silent : (w : World) (g : ℕ) (q : Request) → badGuest ≤ reply w g q .answer → reply w g q .writable ≡ buffer q

@@ -22,9 +22,15 @@ use Rattle.laws.specs.Judge.{Passed}
 
 -- ---- demand 1: every input gets a defined answer; a refusal has its number, writes only its outcome bytes and changes nothing
 
--- the numbers of 01's table
-abbrev pub answerNumbers : List ℕ
-answerNumbers = ok ∷ err ∷ badmsg ∷ notsupp ∷ invsess ∷ nospc ∷ badGuest ∷ noOutcome ∷ badStore ∷ badFeature ∷ badShares ∷ badConfig ∷ []
+-- the numbers that a call can answer; BADMSG is finish's alone
+abbrev pub numbersOf : Request → List ℕ
+numbersOf (Attach word) = ok ∷ badGuest ∷ badStore ∷ badFeature ∷ []
+numbersOf (Control r b) = ok ∷ err ∷ notsupp ∷ nospc ∷ badGuest ∷ noOutcome ∷ badStore ∷ []
+numbersOf (Admit r b) = ok ∷ err ∷ notsupp ∷ invsess ∷ badGuest ∷ noOutcome ∷ []
+numbersOf (Part x r b) = ok ∷ err ∷ notsupp ∷ invsess ∷ badGuest ∷ noOutcome ∷ []
+numbersOf (KeyAnswer n) = ok ∷ invsess ∷ badGuest ∷ badStore ∷ []
+numbersOf (Key n) = ok ∷ invsess ∷ badGuest ∷ badStore ∷ []
+numbersOf (Finish op verdict b) = ok ∷ err ∷ badmsg ∷ badGuest ∷ noOutcome ∷ []
 
 -- the writable bytes that a call was given
 abbrev pub buffer : Request → List ℕ
@@ -55,7 +61,7 @@ Refusal (Key m) n c = c ≡ []
 Refusal (Finish op verdict b) n c = LastByte b c n
 
 pub record Demand1 (w : World) (g : ℕ) (q : Request) : Type 0 where
-  pub number : orIn false (reply w g q .answer) answerNumbers ≡ true
+  pub number : orIn false (reply w g q .answer) (numbersOf q) ≡ true
   -- every answer but 0 leaves table and key store as before
   pub kept : (reply w g q .answer ≡ ok → ⊥) → next w g q ≡ w
   -- an answer from 16 on writes nothing
