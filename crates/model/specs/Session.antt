@@ -80,7 +80,7 @@ placeOf c = record {
   session = record { service = c .service; algo = c .algo; direction = c .direction; keylen = c .keylen; result = c .result; aad = c .aad };
 }
 
--- the slots of a table: nothing else reads them
+-- the slots of a table; every definition that asks about a slot asks this
 unfoldable pub slotsOf : Table → List Place
 slotsOf t = map placeOf (t .slots)
 
