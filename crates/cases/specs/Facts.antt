@@ -12,7 +12,8 @@ use Rattle.model.specs.declared.Table.{Table}
 use Rattle.model.specs.Bytes.{le, le32, le64, part, padded}
 use Rattle.model.specs.Answer.{firstFail, controlOutcome, dataOutcome, controlBytes, dataBytes}
 use Rattle.model.specs.Algorithm.{known, keyOk, resultOk, ivOk, sourceOk, writtenLen}
-use Rattle.model.specs.Session.{storeSize, lastNumber, World, Session, Place, free, holding, slotOf, slotsOf, newGuest, guestAt, area, zeros, keyStart, keyArea, areaOf, keyLen, keyOf, bit, offers, directionOk, lengthsOk, accepts}
+use Rattle.model.specs.declared.Session.{Session}
+use Rattle.model.specs.Session.{storeSize, lastNumber, World, Place, free, holding, slotOf, slotsOf, newGuest, guestAt, area, zeros, keyStart, keyArea, areaOf, keyLen, keyOf, bit, offers, directionOk, lengthsOk, accepts}
 use Rattle.model.specs.View.{present, find, noRoom, full, holds, total}
 use Rattle.model.specs.Act.{withSlot, without, withGuest, restarted, numbered, tableAfter, storeAfter, withArea, wipe}
 use Rattle.model.specs.Setup.{configOf, onlyBits, configOk, sharesOk, setUpAnswer, freshTable, setUp}

@@ -15,7 +15,8 @@ use Rattle.model.specs.declared.Table.{Table}
 use Rattle.model.specs.Bytes.{le32}
 use Rattle.model.specs.Answer.{ok, Check, firstFail, granted}
 use Rattle.model.specs.Algorithm.{cipher}
-use Rattle.model.specs.Session.{World, Session, Place, free, slotsOf, placeAt, guestAt, directed}
+use Rattle.model.specs.declared.Session.{Session}
+use Rattle.model.specs.Session.{World, Place, free, slotsOf, placeAt, guestAt, directed}
 use Rattle.model.specs.View.{owned, live, liveAt, entryAt, find, sessionIn, present, setting, view, full}
 use Rattle.model.specs.Control.{service}
 use Rattle.model.specs.Data.{number, flag, direction, start, lengths, dataChecks}

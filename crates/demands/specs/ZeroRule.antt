@@ -15,7 +15,8 @@ use Rattle.lists.specs.Test.{both-ways}
 use Rattle.model.specs.Bytes.{part, padded, le64}
 use Rattle.model.specs.Answer.{ok, Check}
 use Rattle.model.specs.Algorithm.{cipher, hash, mac}
-use Rattle.model.specs.Session.{areaSize, storeSize, World, Session, Place, free, slotsOf, placeAt, area, keyStart, keyArea, areaOf, keyLen}
+use Rattle.model.specs.declared.Session.{Session}
+use Rattle.model.specs.Session.{areaSize, storeSize, World, Place, free, slotsOf, placeAt, area, keyStart, keyArea, areaOf, keyLen}
 use Rattle.model.specs.View.{Setting, View, setting, live}
 use Rattle.model.specs.Act.{Act, refuse, create, destroy, judge}
 use Rattle.model.specs.Setup.{setUp, setUpAnswer, freshTable, configOf}

@@ -10,7 +10,8 @@ use lib.ListN.{length, take, drop}
 use lib.Seq.{drop-drop, take-take, take-nil}
 use borrow.Author.Tests.{lt-ltb, le-ltb}
 use Rattle.model.specs.Bytes.{part}
-use Rattle.model.specs.Session.{areaSize, World, Session, slotsOf, placeAt, area, keyStart, keyLen, keyOf}
+use Rattle.model.specs.declared.Session.{Session}
+use Rattle.model.specs.Session.{areaSize, World, slotsOf, placeAt, area, keyStart, keyLen, keyOf}
 use Rattle.model.specs.View.{find, liveAt, entryAt, sessionIn}
 use Rattle.model.specs.Data.{isLive, keyBytes}
 

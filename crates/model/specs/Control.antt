@@ -7,11 +7,12 @@ use mathlib.Core.List.{List, [], _∷_, _++_}
 use lib.Dec.{eqb, leb, ltb}
 use lib.ListN.{length}
 use Rattle.model.specs.declared.Config.{Config}
+use Rattle.model.specs.declared.Session.{Session}
 use Rattle.model.specs.Bytes.{le32, le64, part}
 use Rattle.model.specs.Answer.{err, notsupp, nospc, badGuest, noOutcome, badStore, Check}
 use Rattle.model.specs.Lens.{orIn}
 use Rattle.model.specs.Algorithm.{cipher, hash, mac, aead}
-use Rattle.model.specs.Session.{lastNumber, Session, areaOf, Entry, bit, offers, directionOk, lengthsOk}
+use Rattle.model.specs.Session.{lastNumber, areaOf, Entry, bit, offers, directionOk, lengthsOk}
 use Rattle.model.specs.View.{Setting, View, sized, present}
 use Rattle.model.specs.Act.{Act, create, destroy}
 

@@ -7,11 +7,13 @@ use mathlib.Core.List.{List, [], _∷_}
 use lib.Dec.{eqb, leb}
 use lib.ListN.{length}
 use Rattle.model.specs.declared.Config.{Config}
+use Rattle.model.specs.declared.Lengths.{Lengths}
+use Rattle.model.specs.declared.Session.{Session}
 use Rattle.model.specs.Bytes.{le32, le64, part}
 use Rattle.model.specs.Answer.{err, badmsg, notsupp, invsess, badGuest, noOutcome, badStore, Check}
 use Rattle.model.specs.Lens.{orIn}
 use Rattle.model.specs.Algorithm.{cipher, hash, mac, aead, ivOk, sourceOk, writtenLen}
-use Rattle.model.specs.Session.{Session, Entry, noSession, keyOf, bit, directed}
+use Rattle.model.specs.Session.{Entry, noSession, keyOf, bit, directed}
 use Rattle.model.specs.View.{sized}
 use Rattle.model.specs.Control.{opcode, service}
 
@@ -36,15 +38,6 @@ direction r = suc (opcode r % 256)
 -- "Fixed parts: cipher 48, hash 8, MAC 8, AEAD 24"
 abbrev pub dataPart : ℕ → ℕ
 dataPart s = cond (eqb s cipher) 48 (cond (eqb s hash || eqb s mac) 8 24)
-
-pub record Lengths : Type 0 where
-  pub iv : ℕ
-  pub source : ℕ
-  pub aad : ℕ
-  -- what is written before the status
-  pub written : ℕ
-  -- of a hash or MAC result, or an AEAD tag
-  pub result : ℕ
 
 unfoldable pub lengths : List ℕ → Lengths
 lengths r =

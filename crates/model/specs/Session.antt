@@ -6,6 +6,7 @@ use lib.Dec.{eqb, leb}
 use lib.ListN.{getD, replicate, take, drop}
 use Rattle.model.specs.declared.Config.{Config}
 use Rattle.model.specs.declared.Guest.{Guest}
+use Rattle.model.specs.declared.Session.{Session}
 use Rattle.model.specs.declared.Slot.{Slot}
 use Rattle.model.specs.declared.Table.{Table}
 use Rattle.model.specs.Bytes.{part, padded}
@@ -31,16 +32,6 @@ lastNumber = 4294967295
 pub record World : Type 0 where
   pub table : Table
   pub store : List ℕ
-
--- what a create fixes
-pub record Session : Type 0 where
-  pub service : ℕ
-  pub algo : ℕ
-  pub direction : ℕ
-  pub keylen : ℕ
-  -- of a hash or MAC result, or an AEAD tag
-  pub result : ℕ
-  pub aad : ℕ
 
 -- "A slot is free, or holds owner, session number, service, algorithm, direction and lengths"
 pub record Place : Type 0 where

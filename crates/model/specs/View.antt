@@ -8,8 +8,9 @@ use Rattle.lists.specs.Seek.{count, index}
 use Rattle.lists.specs.Sum.{sumTo, except}
 use Rattle.model.specs.declared.Config.{Config}
 use Rattle.model.specs.declared.Guest.{Guest}
+use Rattle.model.specs.declared.Session.{Session}
 use Rattle.model.specs.declared.Table.{Table}
-use Rattle.model.specs.Session.{slotCount, storeSize, World, Session, Place, slotsOf, placeAt, guestAt, area, Entry, accepts}
+use Rattle.model.specs.Session.{slotCount, storeSize, World, Place, slotsOf, placeAt, guestAt, area, Entry, accepts}
 
 abbrev pub isHeld : Place → Bool
 isHeld c = c .held

@@ -4,8 +4,9 @@ use mathlib.Core.Path.{_≡_}
 use mathlib.Core.Bool.{Bool, false, _&&_}
 use lib.Dec.{leb, ltb}
 use lib.ListN.{length, getD}
+use Rattle.model.specs.declared.Session.{Session}
 use Rattle.model.specs.declared.Table.{Table}
-use Rattle.model.specs.Session.{areaSize, World, Session, Place, placeAt, keyStart, keyLen}
+use Rattle.model.specs.Session.{areaSize, World, Place, placeAt, keyStart, keyLen}
 use Rattle.model.specs.View.{live}
 
 -- byte j of a session's area is of its key

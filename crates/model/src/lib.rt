@@ -17,7 +17,26 @@ pub struct Config {
     pub size: u64,
 }
 
-// A session, or all zero where the slot is free. `result` is a hash or MAC result, or an AEAD tag.
+// What a create fixes. `result` is a hash or MAC result, or an AEAD tag.
+pub struct Session {
+    pub service: u32,
+    pub algo: u32,
+    pub direction: u32,
+    pub keylen: u32,
+    pub result: u32,
+    pub aad: u32,
+}
+
+// The lengths of a data request; `written` is what is written before the status.
+pub struct Lengths {
+    pub iv: u32,
+    pub source: u32,
+    pub aad: u32,
+    pub written: u32,
+    pub result: u32,
+}
+
+// A session, or all zero where the slot is free.
 pub struct Slot {
     pub number: u64,
     pub aad: u32,
