@@ -17,9 +17,9 @@ use Rattle.model.specs.Answer.{ok, Check, firstFail, granted}
 use Rattle.model.specs.Algorithm.{cipher}
 use Rattle.model.specs.declared.Session.{Session}
 use Rattle.model.specs.Session.{World, Place, free, slotsOf, placeAt, guestAt, directed}
-use Rattle.model.specs.View.{owned, live, liveAt, entryAt, find, sessionIn, present, setting, view, full}
-use Rattle.model.specs.Control.{service}
-use Rattle.model.specs.Data.{number, flag, direction, start, lengths, dataChecks}
+use Rattle.model.specs.View.{owned, live, liveAt, entryAt, find, present, setting, view, full}
+use Rattle.model.specs.Control.{opcode, service}
+use Rattle.model.specs.Data.{number, flag, directionOf, start, lengths, dataChecks}
 use Rattle.model.specs.Device.{Request, Attach, Control, Admit, Part, KeyAnswer, Key, Finish, checksOf, checks, outcome, reply}
 use Rattle.model.specs.Device as Device
 use Rattle.model.specs.Setup.{setUpChecks, setUpAnswer}
@@ -127,7 +127,7 @@ module _ (w : World) (g : ℕ) (r b : List ℕ) where
 
   -- the checks, where the search ended within the slots or behind them
   abbrev checksBy : Bool → List Check
-  checksBy s = dataChecks (t .config) here (sessionIn (cond s (some (entryAt w at)) none)) r (length b)
+  checksBy s = dataChecks (t .config) here (cond s (some (entryAt w at)) none) r (length b)
 
   admit-checks : checks w g (Admit r b) ≡ checksBy (ltb at (length (slotsOf t)))
   unfolding checks checksOf find
@@ -143,7 +143,7 @@ module _ (w : World) (g : ℕ) (r b : List ℕ) where
   passed-acceptable true e p =
       let x = named t g r .session in
       let h = and-true (ltb g 8) (guestAt t g .attached) (holds-at (checksBy true) 0 p) in
-      let u = and-true (eqb (x .service) (service r)) (not (directed (service r)) || eqb (x .direction) (direction r)) (holds-at (checksBy true) 6 p) in
+      let u = and-true (eqb (x .service) (service r)) (not (directed (service r)) || eqb (x .direction) (directionOf (opcode r))) (holds-at (checksBy true) 6 p) in
       let v = and-true (eqb (length r) (start r + lengths r .iv + lengths r .source + lengths r .aad)) (eqb (length b) (lengths r .written + 1)) (holds-at (checksBy true) 10 p) in
       record {
         guest = ltb-true g 8 (h .0);
@@ -154,7 +154,7 @@ module _ (w : World) (g : ℕ) (r b : List ℕ) where
         alive = found-live t g (number r) (ltb-true at (length (slotsOf t)) e);
         own = eqb-true (named t g r .owner) g (and-true (named t g r .held) (eqb (named t g r .owner) g) (owned-of (named t g r) (found-live t g (number r) (ltb-true at (length (slotsOf t)) e))) .1);
         serves = eqb-true (x .service) (service r) (u .0);
-        directs = λ d. eqb-true (x .direction) (direction r) (implied (directed (service r)) (eqb (x .direction) (direction r)) (u .1) d);
+        directs = λ d. eqb-true (x .direction) (directionOf (opcode r)) (implied (directed (service r)) (eqb (x .direction) (directionOf (opcode r))) (u .1) d);
         readable = eqb-true (length r) _ (v .0);
         writable = eqb-true (length b) _ (v .1);
         limit = leb-true _ (t .config .size) (holds-at (checksBy true) 9 p);
@@ -181,10 +181,10 @@ module _ (w : World) (g : ℕ) (r b : List ℕ) where
       x : Session
       x = named t g r .session
 
-      suits-session : eqb (x .service) (service r) && (not (directed (service r)) || eqb (x .direction) (direction r)) ≡ true
+      suits-session : eqb (x .service) (service r) && (not (directed (service r)) || eqb (x .direction) (directionOf (opcode r))) ≡ true
       suits-session =
           rw (eq-eqb (x .service) (service r) (a .serves))
-          (implies (directed (service r)) (eqb (x .direction) (direction r)) (λ d. eq-eqb (x .direction) (direction r) (a .directs d)))
+          (implies (directed (service r)) (eqb (x .direction) (directionOf (opcode r))) (λ d. eq-eqb (x .direction) (directionOf (opcode r)) (a .directs d)))
 
   pub accepted : (Acceptable t g r b → reply w g (Admit r b) .answer ≡ ok) × (reply w g (Admit r b) .answer ≡ ok → Acceptable t g r b)
   accepted = (

@@ -14,9 +14,9 @@ use Rattle.model.specs.Bytes.{le64, padded}
 use Rattle.model.specs.Answer.{err}
 use Rattle.model.specs.Algorithm.{mac}
 use Rattle.model.specs.Session.{areaSize, lastNumber, keyArea, areaOf, Entry, accepts}
-use Rattle.model.specs.View.{Setting, View, present}
+use Rattle.model.specs.View.{isLive, sessionIn, Setting, View, present}
 use Rattle.model.specs.Act.{Act, pass, attach, create, destroy, judge}
-use Rattle.model.specs.Control.{service, asked, newEntry, formChecks, numbersLeft, createChecks, destroyChecks, ofService}
+use Rattle.model.specs.Control.{service, asked, newEntry, formChecks, numbersLeft, createChecks, destroyChecks}
 use Rattle.model.specs.Device.{Request, Attach, Control, Admit, Part, KeyAnswer, Key, Finish, Outcome, checksOf, asks, outcome}
 use Rattle.history.specs.Apply.{gate}
 use Rattle.history.specs.Lawful.{Lawful, Known, Creatable}
@@ -77,16 +77,18 @@ create-lawful k g v r w p = record {
   };
 }
 
-live-of : (s : ℕ) (v : View) (n : ℕ) → v .guest .attached ≡ true → ofService s (v .find n) ≡ true → Known v n
-live-of s v n a h = go (v .find n) refl h
+live-of : (v : View) (n : ℕ) → v .guest .attached ≡ true → isLive (v .find n) ≡ true → Known v n
+live-of v n a h = go (v .find n) refl h
   where
-    go : (o : Option Entry) → v .find n ≡ o → ofService s o ≡ true → Known v n
+    go : (o : Option Entry) → v .find n ≡ o → isLive o ≡ true → Known v n
     go none e h = absurd (false-true h)
     go (some y) e h = record { attached = a; entry = y; found = e }
 
 destroy-lawful : (k : Setting) (g : ℕ) (v : View) (r : List ℕ) (w : ℕ) → Passed (destroyChecks k g v r w) → Known v (le64 r 16)
 destroy-lawful k g v r w p =
-    live-of (service r) v (le64 r 16) (attached-of g v (holds-at (destroyChecks k g v r w) 1 p)) (holds-at (destroyChecks k g v r w) 8 p)
+    let e = v .find (le64 r 16) in
+    live-of v (le64 r 16) (attached-of g v (holds-at (destroyChecks k g v r w) 1 p))
+    (and-true (isLive e) (eqb (sessionIn e .service) (service r)) (holds-at (destroyChecks k g v r w) 8 p) .0)
 
 pub lawful : (k : Setting) (g : ℕ) (v : View) (q : Request) → Lawful k g v (decide k g v q)
 unfolding checksOf

@@ -15,7 +15,7 @@ use Rattle.model.specs.Session.{slotCount, lastNumber, World, Place, placeAt, g
 use Rattle.model.specs.View.{live, liveAt, find, holds, total}
 use Rattle.model.specs.Setup.{configOf, freshTable, setUpChecks, setUpAnswer, setUp}
 use Rattle.model.specs.Control.{opcode, service, isCreate}
-use Rattle.model.specs.Data.{number, flag, operationOk, direction, start, lengths, fits, partOf, keyBytes, status}
+use Rattle.model.specs.Data.{number, flag, operationOk, directionOf, start, lengths, fits, partOf, keyBytes, status}
 use Rattle.model.specs.Device.{Request, Attach, Control, Admit, Part, KeyAnswer, Key, Finish, Outcome, noJob, checks, reply, next}
 use Rattle.model.specs.Calls.{Call, run, outcomes, only, pastOf, WellFormed}
 use Rattle.laws.specs.Judge.{Passed}
@@ -144,7 +144,7 @@ pub record Acceptable (t : Table) (g : ℕ) (r b : List ℕ) : Type 0 where
   pub own : named t g r .owner ≡ g
   -- of the matching service and direction
   pub serves : named t g r .session .service ≡ service r
-  pub directs : directed (service r) ≡ true → named t g r .session .direction ≡ direction r
+  pub directs : directed (service r) ≡ true → named t g r .session .direction ≡ directionOf (opcode r)
   -- and its lengths fit both buffers,
   pub readable : length r ≡ start r + lengths r .iv + lengths r .source + lengths r .aad
   pub writable : length b ≡ lengths r .written + 1

@@ -2,18 +2,18 @@
 -- Assumes nothing.
 use mathlib.Core.Path.{_≡_, refl, sym, ap, _∙_}
 use mathlib.Core.Bool.{Bool, true, false, cond}
-use mathlib.Core.Option.{none, some}
+use mathlib.Core.Option.{Option, none, some}
 use mathlib.Core.List.{List}
 use Prim.Native.Nat.{ℕ}
 use lib.Dec.{ltb}
 use lib.ListN.{length}
 use Rattle.lists.specs.Test.{both-ways}
 use Rattle.model.specs.Answer.{ok, firstFail}
-use Rattle.model.specs.Session.{World, slotsOf, guestAt}
-use Rattle.model.specs.View.{setting, view, full, find, liveAt, entryAt, sessionIn, present}
+use Rattle.model.specs.Session.{World, Entry, slotsOf}
+use Rattle.model.specs.View.{setting, view, full, find, liveAt, entryAt, isLive, sessionIn}
 use Rattle.model.specs.Act.{Act, refuse, pass, attach, create, destroy, answerOf, tableAfter, storeAfter, after}
 use Rattle.model.specs.Control.{isCreate, newEntry}
-use Rattle.model.specs.Data.{number, dataChecks, Field}
+use Rattle.model.specs.Data.{number, Field}
 use Rattle.model.specs.Bytes.{le64}
 use Rattle.model.specs.Device.{Request, Attach, Control, Admit, Part, KeyAnswer, Key, Finish, checksOf, asks, outcome, checks, act, reply, next, bare}
 use Rattle.laws.specs.Judge.{Passed, answers-of, first-passed, judge-passed, judge-answer}
@@ -71,18 +71,24 @@ module _ (w : World) (g : ℕ) (q : Request) (a : ℕ) (e : a ≡ firstFail (che
 
 -- ---- data requests and finish do not look at the key store
 
-find-session : (w : World) (g n : ℕ) → sessionIn (find w g n) ≡ sessionIn (find (bare (w .table)) g n)
+find-session : (w : World) (g n : ℕ)
+    → (isLive (find w g n) ≡ isLive (find (bare (w .table)) g n)) × (sessionIn (find w g n) ≡ sessionIn (find (bare (w .table)) g n))
 unfolding find
 find-session w g n = go (ltb (liveAt (w .table) g n) (length (slotsOf (w .table))))
   where
-    go : (b : Bool) → sessionIn (cond b (some (entryAt w (liveAt (w .table) g n))) none) ≡ sessionIn (cond b (some (entryAt (bare (w .table)) (liveAt (w .table) g n))) none)
-    go true = refl
-    go false = refl
+    at : ℕ
+    at = liveAt (w .table) g n
+
+    Same : Option Entry → Option Entry → Type 0
+    Same a b = (isLive a ≡ isLive b) × (sessionIn a ≡ sessionIn b)
+
+    go : (b : Bool) → Same (cond b (some (entryAt w at)) none) (cond b (some (entryAt (bare (w .table)) at)) none)
+    go true = (refl, refl)
+    go false = (refl, refl)
 
 data-first : (w : World) (g : ℕ) (r b : List ℕ) → firstFail (checks w g (Admit r b)) ≡ firstFail (checks (bare (w .table)) g (Admit r b))
 unfolding checks checksOf
-data-first w g r b =
-    ap (λ x. firstFail (dataChecks (w .table .config) (present g (guestAt (w .table) g)) x r (length b))) (find-session w g (number r))
+data-first w g r b = rw (find-session w g (number r) .0, find-session w g (number r) .1)
 
 pub bare-admit : (w : World) (g : ℕ) (r b : List ℕ) → reply w g (Admit r b) ≡ reply (bare (w .table)) g (Admit r b)
 unfolding reply outcome

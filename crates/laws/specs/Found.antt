@@ -11,9 +11,9 @@ use lib.Seq.{drop-drop, take-take, take-nil}
 use borrow.Author.Tests.{lt-ltb, le-ltb}
 use Rattle.model.specs.Bytes.{part}
 use Rattle.model.specs.declared.Session.{Session}
-use Rattle.model.specs.Session.{areaSize, World, slotsOf, placeAt, area, keyStart, keyLen, keyOf}
-use Rattle.model.specs.View.{find, liveAt, entryAt, sessionIn}
-use Rattle.model.specs.Data.{isLive, keyBytes}
+use Rattle.model.specs.Session.{areaSize, World, noSession, slotsOf, placeAt, area, keyStart, keyLen, keyOf}
+use Rattle.model.specs.View.{find, liveAt, entryAt, isLive, sessionIn}
+use Rattle.model.specs.Data.{keyBytes}
 
 -- i is the place that the search gave
 module _ (w : World) (g n i : ℕ) (e : i ≡ liveAt (w .table) g n) where
@@ -32,10 +32,10 @@ module _ (w : World) (g n i : ℕ) (e : i ≡ liveAt (w .table) g n) where
   pub live-none : length (slotsOf (w .table)) ≤ i → false ≡ isLive (find w g n)
   live-none h = sym (ap isLive (found-none h))
 
-  pub session-some : i < length (slotsOf (w .table)) → some (placeAt (w .table) i .session) ≡ sessionIn (find w g n)
+  pub session-some : i < length (slotsOf (w .table)) → placeAt (w .table) i .session ≡ sessionIn (find w g n)
   session-some h = sym (ap sessionIn (found-some h))
 
-  pub session-none : length (slotsOf (w .table)) ≤ i → none ≡ sessionIn (find w g n)
+  pub session-none : length (slotsOf (w .table)) ≤ i → noSession ≡ sessionIn (find w g n)
   session-none h = sym (ap sessionIn (found-none h))
 
 -- ---- keys

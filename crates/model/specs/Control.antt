@@ -13,7 +13,7 @@ use Rattle.model.specs.Answer.{err, notsupp, nospc, badGuest, noOutcome,
 use Rattle.model.specs.Lens.{orIn}
 use Rattle.model.specs.Algorithm.{cipher, hash, mac, aead}
 use Rattle.model.specs.Session.{lastNumber, areaOf, Entry, bit, offers, directionOk, lengthsOk}
-use Rattle.model.specs.View.{Setting, View, sized, present}
+use Rattle.model.specs.View.{Setting, View, isLive, sessionIn, sized, present}
 use Rattle.model.specs.Act.{Act, create, destroy}
 
 -- ---- the header
@@ -22,15 +22,21 @@ abbrev pub opcode : List ℕ → ℕ
 opcode r = le32 r 0
 
 -- "Opcode is service·256 + 2 (create) or 3 (destroy)"
+abbrev pub serviceOf : ℕ → ℕ
+serviceOf op = op / 256
+
+abbrev pub creating : ℕ → Bool
+creating op = eqb (op % 256) 2
+
 abbrev pub service : List ℕ → ℕ
-service r = opcode r / 256
+service r = serviceOf (opcode r)
 
 abbrev pub isCreate : List ℕ → Bool
-isCreate r = eqb (opcode r % 256) 2
+isCreate r = creating (opcode r)
 
 -- the opcode is known, and its service offered: its bit is set
 unfoldable pub opcodeOk : Config → ℕ → Bool
-opcodeOk k op = orIn false op (2 ∷ 3 ∷ 258 ∷ 259 ∷ 514 ∷ 515 ∷ 770 ∷ 771 ∷ []) && bit (k .services) (op / 256)
+opcodeOk k op = orIn false op (2 ∷ 3 ∷ 258 ∷ 259 ∷ 514 ∷ 515 ∷ 770 ∷ 771 ∷ []) && bit (k .services) (serviceOf op)
 
 -- ---- a create's fixed part, by service: virtio_crypto_sym_create_session_flf, _hash_, _mac_ and _aead_
 
@@ -57,45 +63,48 @@ plainCreate r = not (eqb (service r) cipher) || eqb (le32 r 64) 1
 unfoldable pub newEntry : List ℕ → Entry
 newEntry r = record { session = asked r; key = areaOf (asked r .service) (part r (16 + createPart (asked r .service)) (asked r .keylen)) }
 
--- ---- the checks in order, over the readable bytes and the number of writable bytes
+-- ---- the checks in order, by the numbers of readable and writable bytes and the fields
 
 -- step 1: "Store length 18; guest 16; writable length 17"
 abbrev pub placeChecks : ℕ → Bool → ℕ → List Check
 placeChecks store here room = (sized store, badStore) ∷ (here, badGuest) ∷ (eqb room 16 || eqb room 1, noOutcome) ∷ []
 
 -- steps 2 and 3
-abbrev pub headChecks : Config → List ℕ → ℕ → List Check
-headChecks k r room =
+abbrev pub headChecks : Config → ℕ → ℕ → ℕ → List Check
+headChecks k op len room =
     -- "Fewer than 16 readable bytes: 1"
-    (leb 16 (length r), err)
+    (leb 16 len, err)
     -- "Opcode unknown or service not offered: 3"
-    ∷ (opcodeOk k (opcode r), notsupp)
+    ∷ (opcodeOk k op, notsupp)
     -- "Writable not 16 for create, 1 for destroy: 1"
-    ∷ (eqb room (cond (isCreate r) 16 1), err)
+    ∷ (eqb room (cond (creating op) 16 1), err)
     -- "Fewer than 16 plus the fixed part: 1"
-    ∷ (leb (16 + cond (isCreate r) (createPart (service r)) 8) (length r), err)
+    ∷ (leb (16 + cond (creating op) (createPart (serviceOf op)) 8) len, err)
     ∷ []
 
--- step 4, up to the session number
-abbrev pub sessionChecks : Config → List ℕ → List Check
-sessionChecks k r =
+-- step 4, up to the session number: of the session x, where the header's algo is `head`
+abbrev pub sessionChecks : Config → Bool → ℕ → Session → ℕ → List Check
+sessionChecks k plain head x len =
     -- "cipher op_type (offset 48 of the fixed part) not 1: 3"
-    (plainCreate r, notsupp)
+    (plain, notsupp)
     -- "The fixed part's algorithm not offered: 3"
-    ∷ (offers k (asked r .service) (asked r .algo), notsupp)
+    ∷ (offers k (x .service) (x .algo), notsupp)
     -- "Header algo differs from the fixed part's: 1"
-    ∷ (eqb (le32 r 4) (asked r .algo), err)
+    ∷ (eqb head (x .algo), err)
     -- "Direction not 1 (encrypt) or 2 (decrypt), for cipher and AEAD: 1"
-    ∷ (directionOk (asked r), err)
+    ∷ (directionOk x, err)
     -- "A length against the rules: 1"
-    ∷ (lengthsOk k (asked r), err)
+    ∷ (lengthsOk k x, err)
     -- "Readable not exactly header, fixed part and key: 1"
-    ∷ (eqb (length r) (16 + createPart (asked r .service) + asked r .keylen), err)
+    ∷ (eqb len (16 + createPart (x .service) + x .keylen), err)
     ∷ []
 
 -- 01's term "well-formed", of a create: it passes these, every check before the session number check
 abbrev pub formChecks : Setting → ℕ → View → List ℕ → ℕ → List Check
-formChecks k g v r room = placeChecks (k .store) (present g (v .guest)) room ++ headChecks (k .config) r room ++ sessionChecks (k .config) r
+formChecks k g v r room =
+    placeChecks (k .store) (present g (v .guest)) room
+    ++ headChecks (k .config) (opcode r) (length r) room
+    ++ sessionChecks (k .config) (plainCreate r) (le32 r 4) (asked r) (length r)
 
 -- 01's term "numbers left": the last one given is not 4,294,967,295
 abbrev pub numbersLeft : View → Bool
@@ -105,19 +114,20 @@ numbersLeft v = ltb (v .guest .last) lastNumber
 abbrev pub createChecks : Setting → ℕ → View → Bool → List ℕ → ℕ → List Check
 createChecks k g v f r room = formChecks k g v r room ++ (numbersLeft v, err) ∷ (not f, nospc) ∷ []
 
--- a live session of service s
-abbrev pub ofService : ℕ → Option Entry → Bool
-ofService s none = false
-ofService s (some e) = eqb (e .session .service) s
+-- the session is live, and of service s
+abbrev pub ofService : ℕ → Bool → Session → Bool
+ofService s alive x = alive && eqb (x .service) s
 
--- a destroy's: step 5, "readable not 24: 1. Session number not live for this guest, or of another service: 1"
+-- step 5: "readable not 24: 1. Session number not live for this guest, or of another service: 1"
+abbrev pub endChecks : Bool → Session → ℕ → ℕ → List Check
+endChecks alive x op len = (eqb len 24, err) ∷ (ofService (serviceOf op) alive x, err) ∷ []
+
+-- a destroy's
 abbrev pub destroyChecks : Setting → ℕ → View → List ℕ → ℕ → List Check
 destroyChecks k g v r room =
     placeChecks (k .store) (present g (v .guest)) room
-    ++ headChecks (k .config) r room
-    ++ (eqb (length r) 24, err)
-    ∷ (ofService (service r) (v .find (le64 r 16)), err)
-    ∷ []
+    ++ headChecks (k .config) (opcode r) (length r) room
+    ++ endChecks (isLive (v .find (le64 r 16))) (sessionIn (v .find (le64 r 16))) (opcode r) (length r)
 
 unfoldable pub controlChecks : Setting → ℕ → View → Bool → List ℕ → ℕ → List Check
 controlChecks k g v f r room = cond (isCreate r) (createChecks k g v f r room) (destroyChecks k g v r room)

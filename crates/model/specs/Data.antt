@@ -1,9 +1,9 @@
 -- Paper 01, "Data requests", with finish, and key fetch. Header 24 bytes: opcode 0, algo 4, session_id 8, flag 16, padding 20; then the
 -- fixed part; then IV, source and AAD. The header's algo and padding are ignored.
-use Prim.Native.Nat.{ℕ, suc, _+_, _/_, _%_}
-use mathlib.Core.Bool.{Bool, false, true, cond, not, _&&_, _||_}
-use mathlib.Core.Option.{Option, none, some, Option·getD}
-use mathlib.Core.List.{List, [], _∷_}
+use Prim.Native.Nat.{ℕ, suc, _+_, _%_}
+use mathlib.Core.Bool.{Bool, false, cond, not, _&&_, _||_}
+use mathlib.Core.Option.{Option, none, some}
+use mathlib.Core.List.{List, [], _∷_, _++_}
 use lib.Dec.{eqb, leb}
 use lib.ListN.{length}
 use Rattle.model.specs.declared.Config.{Config}
@@ -13,9 +13,9 @@ use Rattle.model.specs.Bytes.{le32, le64, part}
 use Rattle.model.specs.Answer.{err, badmsg, notsupp, invsess, badGuest, noOutcome, badStore, Check}
 use Rattle.model.specs.Lens.{orIn}
 use Rattle.model.specs.Algorithm.{cipher, hash, mac, aead, ivOk, sourceOk, writtenLen}
-use Rattle.model.specs.Session.{Entry, noSession, keyOf, bit, directed}
-use Rattle.model.specs.View.{sized}
-use Rattle.model.specs.Control.{opcode, service}
+use Rattle.model.specs.Session.{Entry, keyOf, bit, directed}
+use Rattle.model.specs.View.{isLive, sessionIn, sized}
+use Rattle.model.specs.Control.{opcode, serviceOf, service, ofService}
 
 -- ---- the header
 
@@ -27,11 +27,11 @@ flag r = le32 r 16
 
 -- the operation is known and its service offered; opcode is service·256, and 1 more for decryption
 unfoldable pub operationOk : Config → ℕ → Bool
-operationOk k op = orIn false op (0 ∷ 1 ∷ 256 ∷ 512 ∷ 768 ∷ 769 ∷ []) && bit (k .services) (op / 256)
+operationOk k op = orIn false op (0 ∷ 1 ∷ 256 ∷ 512 ∷ 768 ∷ 769 ∷ []) && bit (k .services) (serviceOf op)
 
 -- a cipher's or AEAD's direction: 1 encrypt, 2 decrypt
-abbrev pub direction : List ℕ → ℕ
-direction r = suc (opcode r % 256)
+abbrev pub directionOf : ℕ → ℕ
+directionOf op = suc (op % 256)
 
 -- ---- the fixed part, by service: virtio_crypto_sym_data_flf, _hash_, _mac_ and _aead_
 
@@ -52,8 +52,11 @@ abbrev pub plainData : List ℕ → Bool
 plainData r = not (eqb (service r) cipher) || eqb (le32 r 64) 1
 
 -- where the variable parts start
+abbrev pub startOf : ℕ → ℕ
+startOf op = 24 + dataPart (serviceOf op)
+
 abbrev pub start : List ℕ → ℕ
-start r = 24 + dataPart (service r)
+start r = startOf (opcode r)
 
 -- the lengths against the rules; "AAD, tag and result lengths of a data request equal the session's"
 unfoldable pub fits : Session → Lengths → Bool
@@ -66,37 +69,47 @@ fits x n =
 
 -- ---- the checks in order
 
--- the live session that the request names, if there is one, is of this service and direction
-abbrev pub suits : ℕ → ℕ → Option Session → Bool
-suits s d none = false
-suits s d (some x) = eqb (x .service) s && (not (directed s) || eqb (x .direction) d)
+-- the session is live, of this service and, where the service has one, of this direction
+abbrev pub suits : ℕ → Bool → Session → Bool
+suits op alive x = ofService (serviceOf op) alive x && (not (directed (serviceOf op)) || eqb (x .direction) (directionOf op))
 
--- by whether the guest is present, the live session that the request names, the readable bytes and the number of writable bytes
-abbrev pub dataChecks : Config → Bool → Option Session → List ℕ → ℕ → List Check
-dataChecks k here x r room =
+-- those that need no session, by whether the guest is present, the opcode, the flag and the numbers of readable and writable bytes
+abbrev pub operationChecks : Config → Bool → ℕ → ℕ → ℕ → ℕ → List Check
+operationChecks k here op flag len room =
     -- "16; 17"
     (here, badGuest)
     ∷ (leb 1 room, noOutcome)
     -- "readable under 24: 1"
-    ∷ (leb 24 (length r), err)
+    ∷ (leb 24 len, err)
     -- "opcode unknown or service not offered: 3"
-    ∷ (operationOk k (opcode r), notsupp)
+    ∷ (operationOk k op, notsupp)
     -- "flag 0: 3; flag not 1: 1"
-    ∷ (not (eqb (flag r) 0), notsupp)
-    ∷ (eqb (flag r) 1, err)
-    -- "session not live for this guest, or other service or direction: 4"
-    ∷ (suits (service r) (direction r) x, invsess)
-    -- "readable under header plus fixed part: 1"
-    ∷ (leb (start r) (length r), err)
-    -- "cipher op_type (offset 40) not 1: 3"
-    ∷ (plainData r, notsupp)
-    -- "variable lengths, read and written, above max_size in sum: 1"
-    ∷ (leb (lengths r .iv + lengths r .source + lengths r .aad + lengths r .written) (k .size), err)
-    -- "readable or writable (result plus 1) not exact: 1"
-    ∷ (eqb (length r) (start r + lengths r .iv + lengths r .source + lengths r .aad) && eqb room (lengths r .written + 1), err)
-    -- "lengths against the rules: 1"
-    ∷ (fits (Option·getD x noSession) (lengths r), err)
+    ∷ (not (eqb flag 0), notsupp)
+    ∷ (eqb flag 1, err)
     ∷ []
+
+-- those on the session x that the request names and on the lengths n
+abbrev pub jobChecks : Config → Bool → Session → ℕ → Bool → Lengths → ℕ → ℕ → List Check
+jobChecks k alive x op plain n len room =
+    -- "session not live for this guest, or other service or direction: 4"
+    (suits op alive x, invsess)
+    -- "readable under header plus fixed part: 1"
+    ∷ (leb (startOf op) len, err)
+    -- "cipher op_type (offset 40) not 1: 3"
+    ∷ (plain, notsupp)
+    -- "variable lengths, read and written, above max_size in sum: 1"
+    ∷ (leb (n .iv + n .source + n .aad + n .written) (k .size), err)
+    -- "readable or writable (result plus 1) not exact: 1"
+    ∷ (eqb len (startOf op + n .iv + n .source + n .aad) && eqb room (n .written + 1), err)
+    -- "lengths against the rules: 1"
+    ∷ (fits x n, err)
+    ∷ []
+
+-- by whether the guest is present, the live session that the request names, the readable bytes and the number of writable bytes
+abbrev pub dataChecks : Config → Bool → Option Entry → List ℕ → ℕ → List Check
+dataChecks k here e r room =
+    operationChecks k here (opcode r) (flag r) (length r) room
+    ++ jobChecks k (isLive e) (sessionIn e) (opcode r) (plainData r) (lengths r) (length r) room
 
 -- ---- the parts of an accepted request: "IV and source; source; source; IV, source and AAD"
 
@@ -111,10 +124,6 @@ partOf source r = part r (start r + lengths r .iv) (lengths r .source)
 partOf aad r = part r (start r + lengths r .iv + lengths r .source) (lengths r .aad)
 
 -- ---- key fetch
-
-abbrev pub isLive : Option Entry → Bool
-isLive none = false
-isLive (some e) = true
 
 -- "18, 16, 4 if nothing live matches, else 0"
 abbrev pub keyChecks : ℕ → Bool → Bool → List Check

@@ -6,11 +6,11 @@ use lib.ListN.{length}
 use Rattle.model.specs.declared.Table.{Table}
 use Rattle.model.specs.Answer.{granted, Check, firstFail, controlBytes, dataBytes, dataOutcome}
 use Rattle.model.specs.Session.{World}
-use Rattle.model.specs.View.{Setting, View, setting, view, full, present, sessionIn}
+use Rattle.model.specs.View.{Setting, View, setting, view, full, present, isLive}
 use Rattle.model.specs.Act.{Act, pass, attach, judge, after}
 use Rattle.model.specs.Setup.{attachChecks}
 use Rattle.model.specs.Control.{opcode, isCreate, controlChecks, controlAct}
-use Rattle.model.specs.Data.{number, dataChecks, Field, partOf, isLive, keyChecks, keyBytes, finishChecks, status}
+use Rattle.model.specs.Data.{number, dataChecks, Field, partOf, keyChecks, keyBytes, finishChecks, status}
 
 -- a call's arguments besides its guest
 pub data Request : Type 0 where
@@ -49,8 +49,8 @@ pub record Outcome : Type 0 where
 unfoldable pub checksOf : Setting → ℕ → View → Bool → Request → List Check
 checksOf k g v f (Attach word) = attachChecks (k .store) g word
 checksOf k g v f (Control r w) = controlChecks k g v f r (length w)
-checksOf k g v f (Admit r w) = dataChecks (k .config) (present g (v .guest)) (sessionIn (v .find (number r))) r (length w)
-checksOf k g v f (Part x r w) = dataChecks (k .config) (present g (v .guest)) (sessionIn (v .find (number r))) r (length w)
+checksOf k g v f (Admit r w) = dataChecks (k .config) (present g (v .guest)) (v .find (number r)) r (length w)
+checksOf k g v f (Part x r w) = dataChecks (k .config) (present g (v .guest)) (v .find (number r)) r (length w)
 checksOf k g v f (KeyAnswer n) = keyChecks (k .store) (present g (v .guest)) (isLive (v .find n))
 checksOf k g v f (Key n) = keyChecks (k .store) (present g (v .guest)) (isLive (v .find n))
 checksOf k g v f (Finish op verdict w) = finishChecks (present g (v .guest)) (length w)

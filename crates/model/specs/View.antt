@@ -1,6 +1,6 @@
 -- Paper 01, "The session table": whose slot is whose, which sessions are live, room for one more, and all that a guest's answers depend on.
 use Prim.Native.Nat.{ℕ, _+_, _-_}
-use mathlib.Core.Bool.{Bool, cond, not, _&&_, _||_}
+use mathlib.Core.Bool.{Bool, true, false, cond, not, _&&_, _||_}
 use mathlib.Core.Option.{Option, none, some}
 use lib.Dec.{eqb, leb, ltb}
 use lib.ListN.{length}
@@ -10,7 +10,7 @@ use Rattle.model.specs.declared.Config.{Config}
 use Rattle.model.specs.declared.Guest.{Guest}
 use Rattle.model.specs.declared.Session.{Session}
 use Rattle.model.specs.declared.Table.{Table}
-use Rattle.model.specs.Session.{slotCount, storeSize, World, Place, slotsOf, placeAt, guestAt, area, Entry, accepts}
+use Rattle.model.specs.Session.{slotCount, storeSize, World, Place, noSession, slotsOf, placeAt, guestAt, area, Entry, accepts}
 
 abbrev pub isHeld : Place → Bool
 isHeld c = c .held
@@ -87,10 +87,14 @@ pub record View : Type 0 where
 abbrev pub view : World → ℕ → View
 view w g = record { guest = guestAt (w .table) g; holds = holds (w .table) g; find = find w g }
 
+abbrev pub isLive : Option Entry → Bool
+isLive none = false
+isLive (some e) = true
+
 -- a live session, without its key
-abbrev pub sessionIn : Option Entry → Option Session
-sessionIn none = none
-sessionIn (some e) = some (e .session)
+abbrev pub sessionIn : Option Entry → Session
+sessionIn none = noSession
+sessionIn (some e) = e .session
 
 -- what stays as set-up left it: the configuration, and the length of the key store
 pub record Setting : Type 0 where
