@@ -1,0 +1,288 @@
+// Paper 01's "Rules per algorithm" and the tests of a configuration and of shares. Each rule is its table, written out row by row.
+ghost use mathlib.Core.Path.{_≡_};
+ghost use mathlib.Core.Bool.{false};
+ghost use Prim.Native.Nat.{_≤_};
+ghost use Rattle.model.specs.Lens.{orIn, ruled};
+ghost use Rattle.model.specs.Algorithm.{ciphers, hashes, macs, aeads, cipherKeys, cipherIvs, cipherSources, hashResults, macKeys, cmacResults, aeadKeys, aeadIvs, aeadTags};
+ghost use Rattle.model.specs.Algorithm.{known, keyOk, resultOk, ivOk, sourceOk, writtenLen};
+ghost use Rattle.model.specs.Session.{bit, maskOf, offers, directionOk, keyLimit, lengthsOk, accepts};
+ghost use Rattle.model.specs.Setup.{configOk, sharesOk};
+
+fn cipher_key(algo: u32, n: u32) -> bool
+    ensures { λ r. ⌜ r ≡ ruled cipherKeys algo n ⌝ }
+{
+    let aes = (n == 16) | (n == 24) | (n == 32);
+    (algo == 2) & aes
+        | (algo == 3) & aes
+        | (algo == 4) & aes
+        | (algo == 8) & (n == 24)
+        | (algo == 13) & ((n == 32) | (n == 64))
+}
+
+fn cipher_iv(algo: u32, n: u32) -> bool
+    ensures { λ r. ⌜ r ≡ ruled cipherIvs algo n ⌝ }
+{
+    (algo == 2) & (n == 0)
+        | (algo == 3) & (n == 16)
+        | (algo == 4) & (n == 16)
+        | (algo == 8) & (n == 8)
+        | (algo == 13) & (n == 16)
+}
+
+fn cipher_source(algo: u32, n: u32) -> bool
+    ensures { λ r. ⌜ r ≡ ruled cipherSources algo n ⌝ }
+{
+    (algo == 2) & (n % 16 == 0)
+        | (algo == 3) & (n % 16 == 0)
+        | (algo == 4)
+        | (algo == 8) & (n % 8 == 0)
+        | (algo == 13) & (16 <= n)
+}
+
+fn hash_result(algo: u32, n: u32) -> bool
+    ensures { λ r. ⌜ r ≡ ruled hashResults algo n ⌝ }
+{
+    (algo == 1) & ((1 <= n) & (n <= 16))
+        | (algo == 2) & ((1 <= n) & (n <= 20))
+        | (algo == 3) & ((1 <= n) & (n <= 28))
+        | (algo == 4) & ((1 <= n) & (n <= 32))
+        | (algo == 5) & ((1 <= n) & (n <= 48))
+        | (algo == 6) & ((1 <= n) & (n <= 64))
+}
+
+fn mac_key(algo: u32, n: u32) -> bool
+    ensures { λ r. ⌜ r ≡ ruled macKeys algo n ⌝ }
+{
+    let hmac = (1 <= n) & (n <= 64);
+    let aes = (n == 16) | (n == 24) | (n == 32);
+    (algo == 1) & hmac
+        | (algo == 2) & hmac
+        | (algo == 3) & hmac
+        | (algo == 4) & hmac
+        | (algo == 5) & hmac
+        | (algo == 6) & hmac
+        | (algo == 26) & aes
+}
+
+fn cmac_result(algo: u32, n: u32) -> bool
+    ensures { λ r. ⌜ r ≡ ruled cmacResults algo n ⌝ }
+{
+    (algo == 26) & ((1 <= n) & (n <= 16))
+}
+
+fn aead_key(algo: u32, n: u32) -> bool
+    ensures { λ r. ⌜ r ≡ ruled aeadKeys algo n ⌝ }
+{
+    let aes = (n == 16) | (n == 24) | (n == 32);
+    (algo == 1) & aes | (algo == 2) & aes | (algo == 3) & (n == 32)
+}
+
+fn aead_iv(algo: u32, n: u32) -> bool
+    ensures { λ r. ⌜ r ≡ ruled aeadIvs algo n ⌝ }
+{
+    (algo == 1) & (n == 12) | (algo == 2) & ((7 <= n) & (n <= 13)) | (algo == 3) & (n == 12)
+}
+
+fn aead_tag(algo: u32, n: u32) -> bool
+    ensures { λ r. ⌜ r ≡ ruled aeadTags algo n ⌝ }
+{
+    let gcm = (n == 4) | (n == 8) | (n == 12) | (n == 13) | (n == 14) | (n == 15) | (n == 16);
+    let ccm = (n == 4) | (n == 6) | (n == 8) | (n == 10) | (n == 12) | (n == 14) | (n == 16);
+    (algo == 1) & gcm | (algo == 2) & ccm | (algo == 3) & (n == 16)
+}
+
+fn is_cipher(algo: u32) -> bool
+    ensures { λ r. ⌜ r ≡ orIn false algo ciphers ⌝ }
+{
+    (algo == 2) | (algo == 3) | (algo == 4) | (algo == 8) | (algo == 13)
+}
+
+fn is_hash(algo: u32) -> bool
+    ensures { λ r. ⌜ r ≡ orIn false algo hashes ⌝ }
+{
+    (algo == 1) | (algo == 2) | (algo == 3) | (algo == 4) | (algo == 5) | (algo == 6)
+}
+
+fn is_mac(algo: u32) -> bool
+    ensures { λ r. ⌜ r ≡ orIn false algo macs ⌝ }
+{
+    (algo == 1) | (algo == 2) | (algo == 3) | (algo == 4) | (algo == 5) | (algo == 6) | (algo == 26)
+}
+
+fn is_aead(algo: u32) -> bool
+    ensures { λ r. ⌜ r ≡ orIn false algo aeads ⌝ }
+{
+    (algo == 1) | (algo == 2) | (algo == 3)
+}
+
+// The algorithm stands in the rules.
+fn is_known(service: u32, algo: u32) -> bool
+    ensures { λ r. ⌜ r ≡ known service algo ⌝ }
+{
+    (service == 0) & is_cipher(algo)
+        | (service == 1) & is_hash(algo)
+        | (service == 2) & is_mac(algo)
+        | (service == 3) & is_aead(algo)
+}
+
+// A key of n bytes; a hash has none to look at.
+fn key_ok(service: u32, algo: u32, n: u32) -> bool
+    ensures { λ r. ⌜ r ≡ keyOk service algo n ⌝ }
+{
+    (service == 0) & cipher_key(algo, n)
+        | (service == 1)
+        | (service == 2) & mac_key(algo, n)
+        | (service == 3) & aead_key(algo, n)
+}
+
+// A hash or MAC result, or an AEAD tag, of n bytes; a cipher has none to look at.
+fn result_ok(service: u32, algo: u32, n: u32) -> bool
+    ensures { λ r. ⌜ r ≡ resultOk service algo n ⌝ }
+{
+    let hashed = hash_result(algo, n);
+    (service == 0)
+        | (service == 1) & hashed
+        | (service == 2) & (hashed | cmac_result(algo, n))
+        | (service == 3) & aead_tag(algo, n)
+}
+
+// An IV of n bytes; only cipher and AEAD have a rule.
+pub fn iv_ok(service: u32, algo: u32, n: u32) -> bool
+    ensures { λ r. ⌜ r ≡ ivOk service algo n ⌝ }
+{
+    (service == 0) & cipher_iv(algo, n)
+        | (service == 1)
+        | (service == 2)
+        | (service == 3) & aead_iv(algo, n)
+}
+
+// A source of n bytes; only a cipher has a rule.
+pub fn source_ok(service: u32, algo: u32, n: u32) -> bool
+    ensures { λ r. ⌜ r ≡ sourceOk service algo n ⌝ }
+{
+    (service == 0) & cipher_source(algo, n) | (service == 1) | (service == 2) | (service == 3)
+}
+
+// The bytes written before the status; a sum of two lengths, so 64 bits.
+pub fn written_len(service: u32, source: u32, result: u32) -> u64
+    ensures { λ r. ⌜ r ≡ writtenLen service source result ⌝ }
+{
+    if service == 0 {
+        return source as u64;
+    }
+    if service == 3 {
+        return source as u64 + result as u64;
+    }
+    result as u64
+}
+
+// Bit n of a mask.
+pub fn has_bit(mask: u32, n: u32) -> bool
+    ensures { λ r. ⌜ r ≡ bit mask n ⌝ }
+{
+    if 32 <= n {
+        return false;
+    }
+    (mask >> n) % 2 == 1
+}
+
+// The mask of a service's algorithms.
+fn mask_of(k: model::Config, service: u32) -> u32
+    ensures { λ r. ⌜ r ≡ maskOf k service ⌝ }
+{
+    if service == 0 {
+        return k.ciphers;
+    }
+    if service == 1 {
+        return k.hashes;
+    }
+    if service == 2 {
+        return k.macs;
+    }
+    k.aeads
+}
+
+// The algorithm stands in the rules, and its bit and its service's bit are set.
+pub fn is_offered(k: model::Config, service: u32, algo: u32) -> bool
+    ensures { λ r. ⌜ r ≡ offers k service algo ⌝ }
+{
+    is_known(service, algo) & has_bit(k.services, service) & has_bit(mask_of(k, service), algo)
+}
+
+// A cipher or AEAD encrypts (1) or decrypts (2).
+pub fn direction_ok(x: model::Session) -> bool
+    ensures { λ r. ⌜ r ≡ directionOk x ⌝ }
+{
+    !((x.service == 0) | (x.service == 3)) | (x.direction == 1) | (x.direction == 2)
+}
+
+// The configuration's limit on a key of this service.
+fn key_limit(k: model::Config, service: u32) -> u32
+    ensures { λ r. ⌜ r ≡ keyLimit k service ⌝ }
+{
+    if service == 2 {
+        return k.authkey;
+    }
+    k.cipherkey
+}
+
+// Key and result lengths by the rules, and the key by the configuration's limit.
+pub fn lengths_ok(k: model::Config, x: model::Session) -> bool
+    ensures { λ r. ⌜ r ≡ lengthsOk k x ⌝ }
+{
+    key_ok(x.service, x.algo, x.keylen)
+        & ((x.service == 1) | (x.keylen <= key_limit(k, x.service)))
+        & result_ok(x.service, x.algo, x.result)
+}
+
+// The session passes step 4 of a create.
+pub fn is_accepted(k: model::Config, x: model::Session) -> bool
+    ensures { λ r. ⌜ r ≡ accepts k x ⌝ }
+{
+    is_offered(k, x.service, x.algo) & direction_ok(x) & lengths_ok(k, x)
+}
+
+// Set-up takes a configuration of these fields. The masks are those of the rules' algorithms.
+pub fn config_ok(k: model::Config) -> bool
+    ensures { λ r. ⌜ r ≡ configOk k ⌝ }
+{
+    (k.status == 1)
+        & (1 <= k.queues)
+        & (k.queues <= 8)
+        & ((k.services & 15) == k.services)
+        & ((k.ciphers & 8476) == k.ciphers)
+        & ((k.ciphers2 & 0) == k.ciphers2)
+        & ((k.hashes & 126) == k.hashes)
+        & ((k.macs & 67108990) == k.macs)
+        & ((k.macs2 & 0) == k.macs2)
+        & ((k.aeads & 14) == k.aeads)
+        & (k.cipherkey <= 64)
+        & (k.authkey <= 64)
+        & (k.reserved == 0)
+        & (k.size <= 65536)
+}
+
+// A share as a number of 64 bits.
+fn wide(share: u8) -> usize
+    ensures { λ r. ⌜ r ≡ share ⌝ }
+    ensures bounded { λ r. ⌜ r ≤ 255 ⌝ }
+{
+    share as usize
+}
+
+// Each reserve is at most its cap and each cap at most 128, and the reserves sum to at most 128.
+pub fn shares_ok(reserves: [u8; 8], caps: [u8; 8]) -> bool
+    ensures { λ r. ⌜ r ≡ sharesOk reserves caps ⌝ }
+{
+    let mut good = true;
+    let mut sum: usize = 0;
+    let mut i: usize = 0;
+    while i < 8 {
+        let reserve = wide(reserves[i]);
+        let cap = wide(caps[i]);
+        good = good & ((reserve <= cap) & (cap <= 128));
+        sum += reserve;
+        i += 1;
+    }
+    good & (sum <= 128)
+}
