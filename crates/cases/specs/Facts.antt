@@ -12,13 +12,14 @@ use Rattle.model.specs.declared.Table.{Table}
 use Rattle.model.specs.Bytes.{le, le32, le64, part, padded}
 use Rattle.model.specs.Answer.{firstFail, controlOutcome, dataOutcome, controlBytes, dataBytes}
 use Rattle.model.specs.Algorithm.{known, keyOk, resultOk, ivOk, sourceOk, writtenLen}
+use Rattle.model.specs.declared.Field.the-variants.{Iv, Source, Aad}
 use Rattle.model.specs.declared.Session.{Session}
 use Rattle.model.specs.Session.{storeSize, lastNumber, World, Place, free, holding, slotOf, slotsOf, newGuest, guestAt, area, zeros, keyStart, keyArea, areaOf, keyLen, keyOf, bit, offers, directionOk, lengthsOk, accepts}
 use Rattle.model.specs.View.{present, find, noRoom, full, holds, total}
 use Rattle.model.specs.Act.{withSlot, without, withGuest, restarted, numbered, tableAfter, storeAfter, withArea, wipe}
 use Rattle.model.specs.Setup.{configOf, onlyBits, configOk, sharesOk, setUpAnswer, freshTable, setUp}
 use Rattle.model.specs.Control.{opcodeOk, asked, newEntry, controlChecks}
-use Rattle.model.specs.Data.{operationOk, lengths, fits, iv, source, aad, partOf, status}
+use Rattle.model.specs.Data.{operationOk, lengths, fits, partOf, status}
 use Rattle.model.specs.Device.{Request, Attach, Control, Admit, Part, KeyAnswer, Key, Finish, checksOf, outcome, checks, act, reply, next}
 use Rattle.cases.specs.Build.{offer, world, head, cipherCreate, hashCreate, macCreate, aeadCreate, destroySession, start, cipherData, hashData, aeadData, asking, ending, sending}
 
@@ -404,12 +405,12 @@ requests =
     ∷ writes 0 (Finish 768 2 (7 ∷ 7 ∷ [])) (7 ∷ 1 ∷ [])
     ∷ writes 0 (Finish 769 2 (7 ∷ 7 ∷ [])) (7 ∷ 2 ∷ [])
     ∷ writes 1 (Finish 769 2 (7 ∷ 7 ∷ [])) (7 ∷ 7 ∷ [])
-    ∷ hands 0 (Part iv ccm (replicate 11 9)) (replicate 7 1)
-    ∷ hands 0 (Part source ccm (replicate 11 9)) (replicate 2 2)
-    ∷ hands 0 (Part aad ccm (replicate 11 9)) (replicate 3 3)
-    ∷ hands 0 (Part aad ccm (replicate 10 9)) []
-    ∷ hands 0 (Part iv (hashData 256 4 9 20) (replicate 21 9)) []
-    ∷ hands 0 (Part source (hashData 256 4 9 20) (replicate 21 9)) (replicate 9 5)
+    ∷ hands 0 (Part Iv ccm (replicate 11 9)) (replicate 7 1)
+    ∷ hands 0 (Part Source ccm (replicate 11 9)) (replicate 2 2)
+    ∷ hands 0 (Part Aad ccm (replicate 11 9)) (replicate 3 3)
+    ∷ hands 0 (Part Aad ccm (replicate 10 9)) []
+    ∷ hands 0 (Part Iv (hashData 256 4 9 20) (replicate 21 9)) []
+    ∷ hands 0 (Part Source (hashData 256 4 9 20) (replicate 21 9)) (replicate 9 5)
     ∷ hands 0 (Key 2) (replicate 16 7)
     ∷ hands 0 (Key 4) []
     ∷ hands 0 (Key 5) (replicate 64 7)

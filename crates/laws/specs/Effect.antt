@@ -8,12 +8,13 @@ use Prim.Native.Nat.{ℕ}
 use lib.Dec.{ltb}
 use lib.ListN.{length}
 use Rattle.lists.specs.Test.{both-ways}
+use Rattle.model.specs.declared.Field.{Field}
 use Rattle.model.specs.Answer.{ok, firstFail}
 use Rattle.model.specs.Session.{World, Entry, slotsOf}
 use Rattle.model.specs.View.{setting, view, full, find, liveAt, entryAt, isLive, sessionIn}
 use Rattle.model.specs.Act.{Act, refuse, pass, attach, create, destroy, answerOf, tableAfter, storeAfter, after}
 use Rattle.model.specs.Control.{isCreate, newEntry}
-use Rattle.model.specs.Data.{number, Field}
+use Rattle.model.specs.Data.{number}
 use Rattle.model.specs.Bytes.{le64}
 use Rattle.model.specs.Device.{Request, Attach, Control, Admit, Part, KeyAnswer, Key, Finish, checksOf, asks, outcome, checks, act, reply, next, bare}
 use Rattle.laws.specs.Judge.{Passed, answers-of, first-passed, judge-passed, judge-answer}

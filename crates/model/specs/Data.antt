@@ -7,6 +7,8 @@ use mathlib.Core.List.{List, [], _∷_, _++_}
 use lib.Dec.{eqb, leb}
 use lib.ListN.{length}
 use Rattle.model.specs.declared.Config.{Config}
+use Rattle.model.specs.declared.Field.{Field}
+use Rattle.model.specs.declared.Field.the-variants.{Iv, Source, Aad}
 use Rattle.model.specs.declared.Lengths.{Lengths}
 use Rattle.model.specs.declared.Session.{Session}
 use Rattle.model.specs.Bytes.{le32, le64, part}
@@ -113,15 +115,10 @@ dataChecks k here e r room =
 
 -- ---- the parts of an accepted request: "IV and source; source; source; IV, source and AAD"
 
-pub data Field : Type 0 where
-  iv : Field
-  source : Field
-  aad : Field
-
 unfoldable pub partOf : Field → List ℕ → List ℕ
-partOf iv r = part r (start r) (lengths r .iv)
-partOf source r = part r (start r + lengths r .iv) (lengths r .source)
-partOf aad r = part r (start r + lengths r .iv + lengths r .source) (lengths r .aad)
+partOf Iv r = part r (start r) (lengths r .iv)
+partOf Source r = part r (start r + lengths r .iv) (lengths r .source)
+partOf Aad r = part r (start r + lengths r .iv + lengths r .source) (lengths r .aad)
 
 -- ---- key fetch
 

@@ -3,6 +3,7 @@ use Prim.Native.Nat.{ℕ, suc}
 use mathlib.Core.Bool.{Bool, cond}
 use mathlib.Core.List.{List, []}
 use lib.ListN.{length}
+use Rattle.model.specs.declared.Field.{Field}
 use Rattle.model.specs.declared.Table.{Table}
 use Rattle.model.specs.Answer.{granted, Check, firstFail, controlBytes, dataBytes, dataOutcome}
 use Rattle.model.specs.Session.{World}
@@ -10,7 +11,7 @@ use Rattle.model.specs.View.{Setting, View, setting, view, full, present
 use Rattle.model.specs.Act.{Act, pass, attach, judge, after}
 use Rattle.model.specs.Setup.{attachChecks}
 use Rattle.model.specs.Control.{opcode, isCreate, controlChecks, controlAct}
-use Rattle.model.specs.Data.{number, dataChecks, Field, partOf, keyChecks, keyBytes, finishChecks, status}
+use Rattle.model.specs.Data.{number, dataChecks, partOf, keyChecks, keyBytes, finishChecks, status}
 
 -- a call's arguments besides its guest
 pub data Request : Type 0 where

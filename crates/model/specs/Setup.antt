@@ -80,10 +80,12 @@ sharesOk reserves caps =
 
 -- ---- set-up
 
--- "Order: 18, 21, 20"
+-- "Order: 18, 21, 20": by the length of the key store, and the configuration k of len bytes
+abbrev pub setUpOrder : ℕ → ℕ → Config → List ℕ → List ℕ → List Check
+setUpOrder store len k reserves caps = (sized store, badStore) ∷ (eqb len 56 && configOk k, badConfig) ∷ (sharesOk reserves caps, badShares) ∷ []
+
 abbrev pub setUpChecks : List ℕ → List ℕ → List ℕ → List ℕ → List Check
-setUpChecks config reserves caps store =
-    (sized (length store), badStore) ∷ (eqb (length config) 56 && configOk (configOf config), badConfig) ∷ (sharesOk reserves caps, badShares) ∷ []
+setUpChecks config reserves caps store = setUpOrder (length store) (length config) (configOf config) reserves caps
 
 unfoldable pub setUpAnswer : List ℕ → List ℕ → List ℕ → List ℕ → ℕ
 setUpAnswer config reserves caps store = firstFail (setUpChecks config reserves caps store)

@@ -36,6 +36,13 @@ pub struct Lengths {
     pub result: u32,
 }
 
+// The readable variable parts of a data request.
+pub enum Field {
+    Iv,
+    Source,
+    Aad,
+}
+
 // A session, or all zero where the slot is free.
 pub struct Slot {
     pub number: u64,
