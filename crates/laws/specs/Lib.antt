@@ -2,6 +2,7 @@ pub mod Numbers
 pub mod Kind
 pub mod Judge
 pub mod Chain
+pub mod Stages
 pub mod Bits
 pub mod Effect
 pub mod Slots

@@ -1,6 +1,6 @@
 -- Paper 01, "Data requests", with finish, and key fetch. Header 24 bytes: opcode 0, algo 4, session_id 8, flag 16, padding 20; then the
 -- fixed part; then IV, source and AAD. The header's algo and padding are ignored.
-use Prim.Native.Nat.{ℕ, suc, _+_, _%_}
+use Prim.Native.Nat.{ℕ, _+_, _%_}
 use mathlib.Core.Bool.{Bool, false, cond, not, _&&_, _||_}
 use mathlib.Core.Option.{Option, none, some}
 use mathlib.Core.List.{List, [], _∷_, _++_}
@@ -33,7 +33,7 @@ operationOk k op = orIn false op (0 ∷ 1 ∷ 256 ∷ 512 ∷ 768 ∷ 769 ∷ []
 
 -- a cipher's or AEAD's direction: 1 encrypt, 2 decrypt
 abbrev pub directionOf : ℕ → ℕ
-directionOf op = suc (op % 256)
+directionOf op = op % 256 + 1
 
 -- ---- the fixed part, by service: virtio_crypto_sym_data_flf, _hash_, _mac_ and _aead_
 

@@ -1,0 +1,384 @@
+// The checks of the calls in paper 01's order. Each stage takes numbers and answers with the number of the first check that fails, 0 where all
+// hold.
+ghost use mathlib.Core.Path.{_≡_};
+ghost use mathlib.Core.Bool.{cond, _&&_};
+ghost use mathlib.Core.List.{_++_};
+ghost use Prim.Native.Nat.{_+_, _≤_};
+ghost use lib.Dec.{eqb, leb};
+ghost use Rattle.model.specs.Answer.{firstFail};
+ghost use Rattle.model.specs.Setup.{configOk, setUpOrder, attachChecks};
+ghost use Rattle.model.specs.Control.{serviceOf, creating, opcodeOk, createPart, placeChecks, headChecks, sessionChecks, endChecks};
+ghost use Rattle.model.specs.Data.{operationOk, dataPart, startOf, fits, suits, operationChecks, jobChecks, keyChecks, finishChecks, status};
+
+// A configuration k of len bytes that set-up takes.
+fn takes(len: usize, k: model::Config) -> bool
+    ensures { λ r. ⌜ r ≡ (eqb len 56 && configOk k) ⌝ }
+{
+    (len == 56) & rules::config_ok(k)
+}
+
+// Set-up: the key store's length, the configuration, the shares.
+pub fn set_up_answer(
+    store: usize,
+    len: usize,
+    k: model::Config,
+    reserves: [u8; 8],
+    caps: [u8; 8],
+) -> u8
+    ensures { λ r. ⌜ r ≡ firstFail (setUpOrder store len k reserves caps) ⌝ }
+{
+    if store != 16384 {
+        return 18;
+    }
+    if !takes(len, k) {
+        return 21;
+    }
+    if !rules::shares_ok(reserves, caps) {
+        return 20;
+    }
+    0
+}
+
+// Attach: the key store's length, the guest, the feature word.
+pub fn attach_answer(store: usize, guest: u8, word: u32) -> u8
+    ensures { λ r. ⌜ r ≡ firstFail (attachChecks store guest word) ⌝ }
+{
+    if store != 16384 {
+        return 18;
+    }
+    if 8 <= guest {
+        return 16;
+    }
+    if word != 1 {
+        return 19;
+    }
+    0
+}
+
+// Step 1 of a control request.
+fn place_answer(store: usize, here: bool, room: usize) -> u8
+    ensures { λ r. ⌜ r ≡ firstFail (placeChecks store here room) ⌝ }
+{
+    if store != 16384 {
+        return 18;
+    }
+    if !here {
+        return 16;
+    }
+    if !((room == 16) | (room == 1)) {
+        return 17;
+    }
+    0
+}
+
+// A known opcode of a service that is offered.
+fn opcode_ok(k: model::Config, op: u32) -> bool
+    ensures { λ r. ⌜ r ≡ opcodeOk k op ⌝ }
+{
+    let known = (op == 2)
+        | (op == 3)
+        | (op == 258)
+        | (op == 259)
+        | (op == 514)
+        | (op == 515)
+        | (op == 770)
+        | (op == 771);
+    known & rules::has_bit(k.services, op / 256)
+}
+
+// The writable bytes are those of a create or of a destroy.
+fn room_ok(op: u32, room: usize) -> bool
+    ensures { λ r. ⌜ r ≡ eqb room (cond (creating op) 16 1) ⌝ }
+{
+    if op % 256 == 2 {
+        return room == 16;
+    }
+    room == 1
+}
+
+// A create's fixed part.
+pub fn create_part(service: u32) -> usize
+    ensures { λ r. ⌜ r ≡ createPart service ⌝ }
+    ensures bounded { λ r. ⌜ r ≤ 56 ⌝ }
+{
+    if service == 0 {
+        return 56;
+    }
+    if service == 1 {
+        return 8;
+    }
+    if service == 2 {
+        return 16;
+    }
+    24
+}
+
+// There are as many readable bytes as header and fixed part of a create or a destroy.
+fn holds_part(op: u32, len: usize) -> bool
+    ensures { λ r. ⌜ r ≡ leb (16 + cond (creating op) (createPart (serviceOf op)) 8) len ⌝ }
+{
+    if op % 256 == 2 {
+        return 16 + create_part(op / 256) <= len;
+    }
+    24 <= len
+}
+
+// Steps 2 and 3.
+fn head_answer(k: model::Config, op: u32, len: usize, room: usize) -> u8
+    ensures { λ r. ⌜ r ≡ firstFail (headChecks k op len room) ⌝ }
+{
+    if len < 16 {
+        return 1;
+    }
+    if !opcode_ok(k, op) {
+        return 3;
+    }
+    if !room_ok(op, room) {
+        return 1;
+    }
+    if !holds_part(op, len) {
+        return 1;
+    }
+    0
+}
+
+// Steps 1 to 3.
+pub fn control_answer(
+    k: model::Config,
+    store: usize,
+    here: bool,
+    op: u32,
+    len: usize,
+    room: usize,
+) -> u8
+    ensures { λ r. ⌜ r ≡ firstFail (placeChecks store here room ++ headChecks k op len room) ⌝ }
+{
+    let answer = place_answer(store, here, room);
+    if answer != 0 {
+        return answer;
+    }
+    head_answer(k, op, len, room)
+}
+
+// The readable bytes are header, fixed part and key.
+fn is_whole(x: model::Session, len: usize) -> bool
+    ensures { λ r. ⌜ r ≡ eqb len (16 + createPart (x .service) + x .keylen) ⌝ }
+{
+    len == 16 + create_part(x.service) + x.keylen as usize
+}
+
+// Step 4 up to the session number: of the session x that a create asks for.
+pub fn session_answer(k: model::Config, plain: bool, head: u32, x: model::Session, len: usize) -> u8
+    ensures { λ r. ⌜ r ≡ firstFail (sessionChecks k plain head x len) ⌝ }
+{
+    if !plain {
+        return 3;
+    }
+    if !rules::is_offered(k, x.service, x.algo) {
+        return 3;
+    }
+    if head != x.algo {
+        return 1;
+    }
+    if !rules::direction_ok(x) {
+        return 1;
+    }
+    if !rules::lengths_ok(k, x) {
+        return 1;
+    }
+    if !is_whole(x, len) {
+        return 1;
+    }
+    0
+}
+
+// Step 5, of a destroy: x is the session that it names, if that is live.
+pub fn destroy_answer(alive: bool, x: model::Session, op: u32, len: usize) -> u8
+    ensures { λ r. ⌜ r ≡ firstFail (endChecks alive x op len) ⌝ }
+{
+    if len != 24 {
+        return 1;
+    }
+    if !(alive & (x.service == op / 256)) {
+        return 1;
+    }
+    0
+}
+
+// A known operation of a service that is offered.
+fn operation_ok(k: model::Config, op: u32) -> bool
+    ensures { λ r. ⌜ r ≡ operationOk k op ⌝ }
+{
+    let known = (op == 0) | (op == 1) | (op == 256) | (op == 512) | (op == 768) | (op == 769);
+    known & rules::has_bit(k.services, op / 256)
+}
+
+// Data requests: the checks that need no session.
+pub fn operation_answer(
+    k: model::Config,
+    here: bool,
+    op: u32,
+    flag: u32,
+    len: usize,
+    room: usize,
+) -> u8
+    ensures { λ r. ⌜ r ≡ firstFail (operationChecks k here op flag len room) ⌝ }
+{
+    if !here {
+        return 16;
+    }
+    if room < 1 {
+        return 17;
+    }
+    if len < 24 {
+        return 1;
+    }
+    if !operation_ok(k, op) {
+        return 3;
+    }
+    if flag == 0 {
+        return 3;
+    }
+    if flag != 1 {
+        return 1;
+    }
+    0
+}
+
+// The session is live, of the operation's service and, for cipher and AEAD, of its direction.
+fn suits_job(op: u32, alive: bool, x: model::Session) -> bool
+    ensures { λ r. ⌜ r ≡ suits op alive x ⌝ }
+{
+    let service = op / 256;
+    alive
+        & (x.service == service)
+        & (!((service == 0) | (service == 3)) | (x.direction == op % 256 + 1))
+}
+
+// A data request's fixed part.
+fn data_part(service: u32) -> usize
+    ensures { λ r. ⌜ r ≡ dataPart service ⌝ }
+    ensures bounded { λ r. ⌜ r ≤ 48 ⌝ }
+{
+    if service == 0 {
+        return 48;
+    }
+    if (service == 1) | (service == 2) {
+        return 8;
+    }
+    24
+}
+
+// Where the variable parts start.
+pub fn start_of(op: u32) -> usize
+    ensures { λ r. ⌜ r ≡ startOf op ⌝ }
+    ensures bounded { λ r. ⌜ r ≤ 72 ⌝ }
+{
+    24 + data_part(op / 256)
+}
+
+// There are as many readable bytes as header and fixed part.
+fn reaches(op: u32, len: usize) -> bool
+    ensures { λ r. ⌜ r ≡ leb (startOf op) len ⌝ }
+{
+    start_of(op) <= len
+}
+
+// All variable lengths together; a sum of four, so 64 bits.
+fn sum_ok(size: u64, n: model::Lengths) -> bool
+    ensures { λ r. ⌜ r ≡ leb (n .iv + n .source + n .aad + n .written) size ⌝ }
+{
+    n.iv as u64 + n.source as u64 + n.aad as u64 + n.written as u64 <= size
+}
+
+// Readable and writable bytes are just those that the lengths name.
+fn is_exact(op: u32, n: model::Lengths, len: usize, room: usize) -> bool
+    ensures { λ r. ⌜ r ≡ (eqb len (startOf op + n .iv + n .source + n .aad) && eqb room (n .written + 1)) ⌝ }
+{
+    let end = start_of(op) + n.iv as usize + n.source as usize + n.aad as usize;
+    (len == end) & (room == n.written as usize + 1)
+}
+
+// The lengths against the rules and the session.
+fn fits_session(x: model::Session, n: model::Lengths) -> bool
+    ensures { λ r. ⌜ r ≡ fits x n ⌝ }
+{
+    rules::iv_ok(x.service, x.algo, n.iv)
+        & rules::source_ok(x.service, x.algo, n.source)
+        & (n.written as u64 == rules::written_len(x.service, n.source, n.result))
+        & (!(x.service == 3) | (n.aad == x.aad))
+        & ((x.service == 0) | (n.result == x.result))
+}
+
+// Data requests: the checks on the session x that is named, if that is live, and on the lengths.
+pub fn job_answer(
+    k: model::Config,
+    alive: bool,
+    x: model::Session,
+    op: u32,
+    plain: bool,
+    n: model::Lengths,
+    len: usize,
+    room: usize,
+) -> u8
+    ensures { λ r. ⌜ r ≡ firstFail (jobChecks k alive x op plain n len room) ⌝ }
+{
+    if !suits_job(op, alive, x) {
+        return 4;
+    }
+    if !reaches(op, len) {
+        return 1;
+    }
+    if !plain {
+        return 3;
+    }
+    if !sum_ok(k.size, n) {
+        return 1;
+    }
+    if !is_exact(op, n, len, room) {
+        return 1;
+    }
+    if !fits_session(x, n) {
+        return 1;
+    }
+    0
+}
+
+// Key fetch.
+pub fn key_answer(store: usize, here: bool, alive: bool) -> u8
+    ensures { λ r. ⌜ r ≡ firstFail (keyChecks store here alive) ⌝ }
+{
+    if store != 16384 {
+        return 18;
+    }
+    if !here {
+        return 16;
+    }
+    if !alive {
+        return 4;
+    }
+    0
+}
+
+// Finish.
+pub fn finish_answer(here: bool, room: usize) -> u8
+    ensures { λ r. ⌜ r ≡ firstFail (finishChecks here room) ⌝ }
+{
+    if !here {
+        return 16;
+    }
+    if room < 1 {
+        return 17;
+    }
+    0
+}
+
+// The byte that finish writes: the verdict, where it can stand.
+pub fn status_of(opcode: u32, verdict: u8) -> u8
+    ensures { λ r. ⌜ r ≡ status opcode verdict ⌝ }
+{
+    if (verdict <= 1) | (verdict == 2) & (opcode == 769) {
+        return verdict;
+    }
+    1
+}
