@@ -1,16 +1,15 @@
 -- The device is an instance of `Rules`: what it asks for, by every check but the room, is lawful.
 -- Assumes nothing.
-use mathlib.Core.Path.{_≡_, refl, _∙_}
+use mathlib.Core.Path.{_≡_, refl}
 use mathlib.Core.Bool.{Bool, true, false}
 use mathlib.Core.Option.{Option, none, some}
 use mathlib.Core.List.{List, [], _∷_, _++_}
-use Prim.Native.Nat.{ℕ, zero, suc}
-use native.Mathlib.Omega.{arith}
+use Prim.Native.Nat.{ℕ}
 use lib.Dec.{eqb, ltb}
 use borrow.Author.Tests.{ltb-true}
-use lib.ListN.{length, length-append}
+use lib.ListN.{length}
 use Rattle.lists.specs.Test.{false-true, and-true, both-ways}
-use Rattle.model.specs.Bytes.{le64, padded}
+use Rattle.model.specs.Bytes.{le64}
 use Rattle.model.specs.Answer.{err}
 use Rattle.model.specs.Algorithm.{mac}
 use Rattle.model.specs.Session.{areaSize, lastNumber, keyArea, areaOf, Entry, accepts}
@@ -23,6 +22,7 @@ use Rattle.history.specs.Lawful.{Lawful, Known, Creatable}
 use Rattle.history.specs.Rules.{Rules}
 use Rattle.laws.specs.Kind.{by-kind}
 use Rattle.laws.specs.Judge.{Passed, holds-at}
+use Rattle.laws.specs.Areas.{length-keyArea}
 use Rattle.demands.specs.Checks.{lawful-judge, gate-other, gate-create}
 
 -- what a request asks for, by every check but the room
@@ -44,16 +44,6 @@ decided k g v f (Key n) = gate-other f (checksOf k g v f (Key n)) pass refl
 decided k g v f (Finish op verdict w) = gate-other f (checksOf k g v f (Finish op verdict w)) pass refl
 
 -- ---- a create's key area is whole
-
-pub length-padded : (n : ℕ) (k : List ℕ) → length (padded n k) ≡ n
-unfolding padded
-length-padded zero k = refl
-length-padded (suc n) [] = omega (arith, length-padded n [])
-length-padded (suc n) (x ∷ k) = omega (arith, length-padded n k)
-
-length-keyArea : (front back : List ℕ) → length (keyArea front back) ≡ areaSize
-unfolding keyArea
-length-keyArea front back = length-append (padded 64 front) (padded 64 back) ∙ omega (arith, length-padded 64 front, length-padded 64 back)
 
 length-areaOf : (s : ℕ) (key : List ℕ) → length (areaOf s key) ≡ areaSize
 unfolding areaOf

@@ -33,8 +33,9 @@ use Rattle.history.specs.Rules as Rules
 use Rattle.history.specs.Rules.{inv-run, setting-run}
 use Rattle.history.specs.Zero.{Fills, all-run}
 use Rattle.follows.specs.Areas.{cells, length-cells, getD-cells}
+use Rattle.laws.specs.Areas.{length-padded}
 use Rattle.follows.specs.Follows.{cellFrom, stateOf}
-use Rattle.demands.specs.Instance.{decide, rules, length-padded}
+use Rattle.demands.specs.Instance.{decide, rules}
 use Rattle.demands.specs.Start.{fresh}
 use Rattle.demands.specs.Steps.{same-run}
 

@@ -9,3 +9,4 @@ pub mod Slots
 pub mod Areas
 pub mod Found
 pub mod Loops
+pub mod Walk

@@ -6,9 +6,141 @@ ghost use mathlib.Core.List.{_++_};
 ghost use Prim.Native.Nat.{_+_, _≤_};
 ghost use lib.Dec.{eqb, leb};
 ghost use Rattle.model.specs.Answer.{firstFail};
-ghost use Rattle.model.specs.Setup.{configOk, setUpOrder, attachChecks};
-ghost use Rattle.model.specs.Control.{serviceOf, creating, opcodeOk, createPart, placeChecks, headChecks, sessionChecks, endChecks};
-ghost use Rattle.model.specs.Data.{operationOk, dataPart, startOf, fits, suits, operationChecks, jobChecks, keyChecks, finishChecks, status};
+ghost use Rattle.model.specs.Setup.{configOk, configOf, setUpOrder, attachChecks};
+ghost use Rattle.model.specs.Control.{asked, plainCreate, serviceOf, creating, opcodeOk, createPart, placeChecks, headChecks, sessionChecks, endChecks};
+ghost use Rattle.model.specs.Data.{lengths, partOf, operationOk, dataPart, startOf, fits, suits, operationChecks, jobChecks, keyChecks, finishChecks, status};
+
+// ---- fields, as document 001 lays them out
+
+// The configuration's thirteen fields.
+pub fn config_of(b: &[u8]) -> model::Config
+    ensures { λ r. ⌜ r ≡ configOf (now (b .entry)) ⌝ }
+{
+    model::Config {
+        status: wire::le32(b, 0),
+        queues: wire::le32(b, 4),
+        services: wire::le32(b, 8),
+        ciphers: wire::le32(b, 12),
+        ciphers2: wire::le32(b, 16),
+        hashes: wire::le32(b, 20),
+        macs: wire::le32(b, 24),
+        macs2: wire::le32(b, 28),
+        aeads: wire::le32(b, 32),
+        cipherkey: wire::le32(b, 36),
+        authkey: wire::le32(b, 40),
+        reserved: wire::le32(b, 44),
+        size: wire::le64(b, 48),
+    }
+}
+
+// The session that a create's fixed part asks for, by its service.
+pub fn asked(r: &[u8]) -> model::Session
+    ensures { λ x. ⌜ x ≡ asked (now (r .entry)) ⌝ }
+{
+    let service = wire::le32(r, 0) / 256;
+    let algo = wire::le32(r, 16);
+    let second = wire::le32(r, 20);
+    let third = wire::le32(r, 24);
+    if service == 0 {
+        return model::Session {
+            service: 0,
+            algo,
+            direction: third,
+            keylen: second,
+            result: 0,
+            aad: 0,
+        };
+    }
+    if service == 1 {
+        return model::Session {
+            service: 1,
+            algo,
+            direction: 0,
+            keylen: 0,
+            result: second,
+            aad: 0,
+        };
+    }
+    if service == 2 {
+        return model::Session {
+            service: 2,
+            algo,
+            direction: 0,
+            keylen: third,
+            result: second,
+            aad: 0,
+        };
+    }
+    model::Session {
+        service: 3,
+        algo,
+        direction: wire::le32(r, 32),
+        keylen: second,
+        result: third,
+        aad: wire::le32(r, 28),
+    }
+}
+
+// A cipher's op_type is 1. It stands 64 bytes from the start of a create and of a data request.
+pub fn is_plain(r: &[u8]) -> bool
+    ensures { λ b. ⌜ b ≡ plainCreate (now (r .entry)) ⌝ }
+{
+    !(wire::le32(r, 0) / 256 == 0) | (wire::le32(r, 64) == 1)
+}
+
+// The lengths of a data request's fixed part, by its service.
+pub fn lengths(r: &[u8]) -> model::Lengths
+    ensures { λ n. ⌜ n ≡ lengths (now (r .entry)) ⌝ }
+{
+    let service = wire::le32(r, 0) / 256;
+    let first = wire::le32(r, 24);
+    let second = wire::le32(r, 28);
+    let third = wire::le32(r, 32);
+    if service == 0 {
+        return model::Lengths {
+            iv: first,
+            source: second,
+            aad: 0,
+            written: third,
+            result: 0,
+        };
+    }
+    if service == 3 {
+        let written = wire::le32(r, 36);
+        let result = wire::le32(r, 40);
+        return model::Lengths {
+            iv: first,
+            source: third,
+            aad: second,
+            written,
+            result,
+        };
+    }
+    model::Lengths {
+        iv: 0,
+        source: first,
+        aad: 0,
+        written: second,
+        result: second,
+    }
+}
+
+// A variable part of a data request.
+pub fn part<'a>(r: &'a [u8], field: model::Field) -> &'a [u8]
+    ensures { λ p. ⌜ now p ≡ partOf field (now (r .entry)) ⌝ }
+{
+    let n = lengths(r);
+    let iv = start_of(wire::le32(r, 0));
+    let source = iv + n.iv as usize;
+    let aad = source + n.source as usize;
+    match field {
+        model::Field::Iv => wire::part(r, iv, n.iv as usize),
+        model::Field::Source => wire::part(r, source, n.source as usize),
+        model::Field::Aad => wire::part(r, aad, n.aad as usize),
+    }
+}
+
+// ---- checks
 
 // A configuration k of len bytes that set-up takes.
 fn takes(len: usize, k: model::Config) -> bool

@@ -1,0 +1,103 @@
+-- Laws of what the functions of the key store leave, one for each way out of them.
+-- Assumes nothing.
+use Prim.Native.Nat.{ℕ, zero, suc, _+_, _*_, _≤_, _<_}
+use mathlib.Core.Path.{_≡_, refl, sym, ap, _∙_}
+use mathlib.Core.Bool.{cond}
+use mathlib.Core.List.{List, [], _∷_, _++_}
+use native.Mathlib.Nat.{not-suc-le-zero, le-of-suc-le-suc}
+use native.Mathlib.Omega.{arith}
+use lib.Dec.{eqb}
+use lib.ListN.{length, getD, take, drop, replicate}
+use lib.Seq.{take-all}
+use borrow.Author.Tests.{eq-eqb, ne-eqb, lt-ltb, le-ltb}
+use Rattle.lists.specs.Test.{both-ways}
+use Rattle.lists.specs.Splice.{splice, splice-fits, splice-then}
+use Rattle.model.specs.declared.Session.{Session}
+use Rattle.model.specs.declared.Table.{Table}
+use Rattle.model.specs.Bytes.{part, padded}
+use Rattle.model.specs.Session.{free, slotOf, placeOf, slotsOf, zeros, keyArea, keyStart, keyLen}
+use Rattle.model.specs.View.{owned}
+use Rattle.model.specs.Act.{withArea, wipe}
+use Rattle.laws.specs.Areas.{length-padded, length-keyArea, wipe-more}
+use Rattle.laws.specs.Slots.{place-at, slots-length}
+use Rattle.keystore.specs.Stored.{stored, cleared, keyAt}
+
+-- ---- keys with zeros behind them
+
+pub padded-at : (n : ℕ) (k : List ℕ) (i : ℕ) → i < n → getD k i 0 ≡ getD (padded n k) i 0
+unfolding padded
+padded-at zero k i h = absurd (not-suc-le-zero h)
+padded-at (suc n) [] zero h = refl
+padded-at (suc n) (x ∷ k) zero h = refl
+padded-at (suc n) [] (suc i) h = padded-at n [] i (le-of-suc-le-suc h)
+padded-at (suc n) (x ∷ k) (suc i) h = padded-at n k i (le-of-suc-le-suc h)
+
+pub padded-empty : (n : ℕ) → padded n [] ≡ replicate n 0
+unfolding padded
+padded-empty zero = refl
+padded-empty (suc n) = ap (λ (l : List ℕ). 0 ∷ l) (padded-empty n)
+
+pub no-keys : keyArea [] [] ≡ zeros
+unfolding keyArea padded
+no-keys = refl
+
+-- ---- one area
+
+module _ (b : List ℕ) (i : ℕ) (a : List ℕ) where
+  pub stored-unsized : (length b ≡ 16384 → ⊥) → b ≡ stored b i a
+  unfolding stored
+  stored-unsized h = rw (ne-eqb _ _ h)
+
+  pub stored-past : length b ≡ 16384 → 128 ≤ i → b ≡ stored b i a
+  unfolding stored
+  stored-past h k = rw (eq-eqb _ _ h, le-ltb _ _ k)
+
+  pub stored-in : length b ≡ 16384 → i < 128 → stored b i a ≡ withArea b i a
+  unfolding stored
+  stored-in h k = rw (eq-eqb _ _ h, lt-ltb _ _ k)
+
+-- a write of each half is a write of the area
+pub put-halves : (b b₁ b₂ : List ℕ) (i : ℕ) (front back : List ℕ) → length b ≡ 16384 → i < 128
+    → b₁ ≡ splice b (128 * i) (padded 64 front) → b₂ ≡ splice b₁ (128 * i + 64) (padded 64 back) → b₂ ≡ stored b i (keyArea front back)
+unfolding withArea keyArea
+put-halves b b₁ b₂ i front back h k e₁ e₂ =
+    let a : List ℕ = padded 64 front ++ padded 64 back in
+    let n : length (padded 64 front) ≡ 64 = length-padded 64 front in
+    let m : length (padded 64 back) ≡ 64 = length-padded 64 back in
+    let l : length a ≡ 128 = length-keyArea front back in
+    let all : b₂ ≡ splice b (128 * i) a = splice-then b b₁ b₂ (128 * i) (128 * i + 64) (padded 64 front) (padded 64 back) (omega arith) (omega arith) e₁ e₂ in
+    all
+    ∙ splice-fits b (128 * i) a (omega arith)
+    ∙ ap (λ (j : ℕ). take (128 * i) b ++ (a ++ drop (128 * i + j) b)) l
+    ∙ sym (stored-in b i a h k)
+
+-- ---- the areas of one guest
+
+-- a loop over the slots: one more; cur is the store that it has, and out what it then has
+pub clear-more : (t : Table) (g i : ℕ) (b cur out : List ℕ) → length (t .slots) ≡ 128 → i < 128 → length b ≡ 16384 → length cur ≡ length b
+    → cur ≡ wipe (owned g) (take i (slotsOf t)) b
+    → out ≡ cond (owned g (placeOf (getD (t .slots) i (slotOf free)))) (stored cur i zeros) cur
+    → out ≡ wipe (owned g) (take (i + 1) (slotsOf t)) b
+clear-more t g i b cur out n h m k e f =
+    let s : length (slotsOf t) ≡ 128 = slots-length t ∙ n in
+    wipe-more (owned g) (slotsOf t) b cur out i free (omega arith) (omega arith) e
+    (rw (place-at t i, ← stored-in cur i zeros (k ∙ m) h) f)
+
+-- all of them
+pub clear-done : (t : Table) (g i : ℕ) (b cur : List ℕ) → length (t .slots) ≡ 128 → 128 ≤ i → length b ≡ 16384
+    → cur ≡ wipe (owned g) (take i (slotsOf t)) b → cur ≡ cleared b (wipe (owned g) (slotsOf t) b)
+unfolding cleared
+clear-done t g i b cur n h m e =
+    let s : length (slotsOf t) ≡ 128 = slots-length t ∙ n in
+    rw (eq-eqb _ _ m) (rw (take-all i (slotsOf t) (omega arith)) at e)
+
+-- ---- the key of a session
+
+pub keyStart-le : (service : ℕ) → keyStart service ≤ 64
+unfolding keyStart
+keyStart-le service = both-ways (λ (n : ℕ). n ≤ 64) (eqb service 2) 64 0 (omega arith) (omega arith)
+
+pub key-at : (b key : List ℕ) (i start n : ℕ) (x : Session) → i < 128 → start ≡ keyStart (x .service) → n ≡ keyLen x
+    → key ≡ part b (128 * i + start) n → key ≡ keyAt b i x
+unfolding keyAt
+key-at b key i start n x h e f p = rw (lt-ltb _ _ h, ← e, ← f) p

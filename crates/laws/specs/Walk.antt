@@ -1,0 +1,150 @@
+-- Loops over the slots of a table, with slot i as the code reads it, and how many slots and guests a table has.
+-- Assumes nothing.
+use mathlib.Core.Path.{_≡_, refl, sym, ap, _∙_}
+use mathlib.Core.Bool.{Bool, true, false, cond}
+use mathlib.Core.List.{[], _∷_}
+use Prim.Native.Nat.{ℕ, zero, suc, _+_, _≤_, _<_}
+use native.Mathlib.Numerals.{add-one}
+use native.Mathlib.Omega.{arith}
+use borrow.Author.Tests.{le-leb, lt-leb, eq-eqb, ne-eqb}
+use mir.Val.{boolByte}
+use denote.Laws.{Is}
+use denote.Struct.Declared.{row}
+use denote.Struct.Laws.{val}
+use lib.Dec.{eqb, leb}
+use lib.ListN.{length, getD, drop, length-map, List·getD-eq-default}
+use lib.Seq.{set-out}
+use Rattle.lists.specs.Seek.{one, count, index, count-not}
+use Rattle.lists.specs.Sum.{sumTo, except}
+use Rattle.model.proofs.Table.{the-type}
+use Rattle.model.proofs.Table.Laws.{the-laws}
+use Rattle.model.specs.declared.Session.{Session}
+use Rattle.model.specs.declared.Slot.{Slot}
+use Rattle.model.specs.declared.Table.{Table}
+use Rattle.model.specs.Session.{Place, free, slotOf, placeOf, slotsOf, placeAt}
+use Rattle.model.specs.View.{isHeld, isFree, owned, total}
+use Rattle.model.specs.Act.{withSlot, without}
+use Rattle.laws.specs.Loops.{count-more, count-end, index-here, index-later, index-end, mapBelow, below-at, below-more, below-skip, below-all}
+use Rattle.laws.specs.Slots.{slots-length, place-at}
+
+-- ---- what `c .good .K` and `c .f .ok` tell of a table
+
+abbrev pub Good : Table → Type 0
+Good t = Is (row the-type) t (val the-type the-laws t ∷ [])
+
+pub length-slots : (t : Table) → Good t → length (t .slots) ≡ 128
+length-slots t g = simp length-map at (g .1 .1 .1 .0 .1 .0 .1)
+
+pub length-guests : (t : Table) → Good t → length (t .guests) ≡ 8
+length-guests t g = simp length-map at (g .1 .1 .1 .1 .0 .1 .0 .1)
+
+pub held-or-free : (t : Table) → Good t → total t + count isFree (slotsOf t) ≡ 128
+held-or-free t g = count-not isHeld (slotsOf t) ∙ slots-length t ∙ length-slots t g
+
+-- "no slot is free", of the number of held slots
+pub none-free : (t : Table) → Good t → leb 128 (total t) ≡ eqb (count isFree (slotsOf t)) 0
+none-free t g = go (count isFree (slotsOf t)) (held-or-free t g)
+  where
+    go : (n : ℕ) → total t + n ≡ 128 → leb 128 (total t) ≡ eqb n 0
+    go zero e = le-leb 128 (total t) (omega arith)
+    go (suc n) e = lt-leb 128 (total t) (omega arith) ∙ sym (ne-eqb (suc n) 0 (λ z. omega arith))
+
+-- a slot past the end is free, and is not stored
+pub slot-past : (t : Table) → Good t → (i : ℕ) → 128 ≤ i → slotOf free ≡ getD (t .slots) i (slotOf free)
+slot-past t g i h = sym (List·getD-eq-default (t .slots) (slotOf free) (omega (arith, length-slots t g)))
+
+pub slot-out : (t : Table) (g : Good t) (i : ℕ) (c : Place) → 128 ≤ i → t ≡ withSlot t i c
+unfolding withSlot
+slot-out t g i c h = rw (set-out (t .slots) i (slotOf c) (omega (arith, length-slots t g)))
+
+-- ---- one turn of a loop and its end; b is what the code finds of slot i
+
+-- a bool as the code counts it
+cast-one : (b : Bool) → (boolByte b ≡ one b) × (boolByte b ≤ 1)
+cast-one true = (refl, omega arith)
+cast-one false = (refl, omega arith)
+
+pub cast-le : (b : Bool) → boolByte b ≤ 1
+cast-le b = cast-one b .1
+
+module _ (t : Table) (g : Good t) (p : Place → Bool) (i : ℕ) where
+  inside : i < 128 → i < length (slotsOf t)
+  inside h = omega (arith, slots-length t, length-slots t g)
+
+  outside : 128 ≤ i → length (slotsOf t) ≤ i
+  outside h = omega (arith, slots-length t, length-slots t g)
+
+  module _ (b : Bool) (h : i < 128) (e : b ≡ p (placeOf (getD (t .slots) i (slotOf free)))) where
+    place : p (placeAt t i) ≡ b
+    place = ap p (place-at t i) ∙ sym e
+
+    pub slots-count : count p (drop i (slotsOf t)) ≡ boolByte b + count p (drop (i + 1) (slotsOf t))
+    slots-count = omega (arith, count-more p (slotsOf t) i free (inside h), ap one place, cast-one b .0)
+
+    pub slots-here : b ≡ true → index p (drop i (slotsOf t)) ≡ 0
+    slots-here y = index-here p (slotsOf t) i free (inside h) (place ∙ y)
+
+    pub slots-later : b ≡ false → index p (drop i (slotsOf t)) ≡ suc (index p (drop (i + 1) (slotsOf t)))
+    slots-later y = index-later p (slotsOf t) i free (inside h) (place ∙ y)
+
+  pub slots-counted : 128 ≤ i → count p (drop i (slotsOf t)) ≡ 0
+  slots-counted h = count-end p (slotsOf t) i (outside h)
+
+  pub slots-searched : 128 ≤ i → index p (drop i (slotsOf t)) ≡ 0
+  slots-searched h = index-end p (slotsOf t) i (outside h)
+
+-- the session x of slot c, where the search that found j ended at c, slot i
+pub slots-session : (t : Table) (i j : ℕ) (c : Slot) (x : Session) → i ≡ j → c ≡ getD (t .slots) i (slotOf free) → x ≡ placeOf c .session
+    → x ≡ placeAt t j .session
+slots-session t i j c x e f h =
+    h
+    ∙ ap (λ (d : Slot). placeOf d .session) f
+    ∙ sym (ap (λ (q : Place). q .session) (place-at t i))
+    ∙ ap (λ (k : ℕ). placeAt t k .session) e
+
+-- ---- a loop that frees the slots of a guest
+
+-- a slot after that
+abbrev freed : ℕ → Slot → Slot
+freed g c = cond (owned g (placeOf c)) (slotOf free) c
+
+-- the table with the slots of guest g below i freed
+unfoldable pub freedBelow : Table → ℕ → ℕ → Table
+freedBelow t g i = record { config = t .config; slots = mapBelow (freed g) i (t .slots); guests = t .guests }
+
+pub freed-none : (t : Table) (g : ℕ) → t ≡ freedBelow t g 0
+unfolding freedBelow mapBelow
+freed-none t g = refl
+
+pub freed-all : (t : Table) (g i : ℕ) → Good t → 128 ≤ i → freedBelow t g i ≡ without t g
+unfolding freedBelow without
+freed-all t g i k h = rw (below-all (freed g) (t .slots) i (omega (arith, length-slots t k)))
+
+-- u is the table that the loop has, and b what the code finds of slot i
+module _ (t u : Table) (g i : ℕ) (b : Bool) (e : u ≡ freedBelow t g i) (f : b ≡ owned g (placeOf (getD (u .slots) i (slotOf free)))) where
+  there : owned g (placeOf (getD (t .slots) i (slotOf free))) ≡ b
+  unfolding freedBelow
+  there = ap (λ (c : Slot). owned g (placeOf c)) (sym (below-at (freed g) (t .slots) i (slotOf free))) ∙ rw e at (sym f)
+
+  pub freed-more : b ≡ true → withSlot u i free ≡ freedBelow t g (i + 1)
+  unfolding freedBelow withSlot
+  freed-more y =
+      let v : freed g (getD (t .slots) i (slotOf free)) ≡ slotOf free = rw (there ∙ y) in
+      rw (e, add-one i, ← below-more (freed g) (t .slots) i (slotOf free), v)
+
+  pub freed-skip : b ≡ false → u ≡ freedBelow t g (i + 1)
+  unfolding freedBelow
+  freed-skip y =
+      let v : freed g (getD (t .slots) i (slotOf free)) ≡ getD (t .slots) i (slotOf free) = rw (there ∙ y) in
+      e ∙ rw (add-one i, ← below-skip (freed g) (t .slots) i (slotOf free) v)
+
+-- ---- a loop over the guests that sums what those but g lack
+
+module _ (g i : ℕ) (f : ℕ → ℕ) where
+  pub others-more : (i ≡ g → ⊥) → sumTo (i + 1) (except g f) ≡ sumTo i (except g f) + f i
+  unfolding sumTo
+  others-more d = rw (add-one i, ne-eqb i g d)
+
+  pub others-skip : i ≡ g → sumTo (i + 1) (except g f) ≡ sumTo i (except g f)
+  unfolding sumTo
+  others-skip e = rw (add-one i, eq-eqb i g e) (omega arith)

@@ -1,0 +1,349 @@
+// The session table by value: whose slot is whose, the live session of a number, room for one more, and the tables that calls leave.
+ghost use mathlib.Core.Path.{_≡_};
+ghost use mathlib.Core.Bool.{_&&_};
+ghost use Prim.Native.Nat.{_≤_, _-_};
+ghost use lib.Dec.{eqb};
+ghost use Rattle.model.specs.Session.{free, holding, slotOf, placeOf, placeAt, newGuest, guestAt};
+ghost use Rattle.model.specs.View.{owned, given, freeAt, liveAt, holds, total, unmet, owed, full, present};
+ghost use Rattle.model.specs.Act.{attach, withSlot, without, withGuest, restarted, tableAfter};
+ghost use Rattle.model.specs.Setup.{freshTable};
+ghost use Rattle.table.specs.Narrow.{low, lastly, numberAfter};
+
+// The place of a live session, 128 where there is none, and the session, all 0 where there is none.
+pub struct Found {
+    pub at: usize,
+    pub session: model::Session,
+}
+
+// A free slot, every field cleared.
+fn free_slot() -> model::Slot
+    ensures { λ r. ⌜ r ≡ slotOf free ⌝ }
+{
+    model::Slot {
+        number: 0,
+        aad: 0,
+        held: false,
+        owner: 0,
+        service: 0,
+        algo: 0,
+        direction: 0,
+        keylen: 0,
+        result: 0,
+    }
+}
+
+// A guest that never attached.
+fn new_guest(reserve: u8, cap: u8) -> model::Guest
+    ensures { λ r. ⌜ r ≡ newGuest reserve cap ⌝ }
+{
+    model::Guest {
+        attached: false,
+        reserve,
+        cap,
+        last: 0,
+    }
+}
+
+// The table after set-up.
+pub fn fresh(config: model::Config, reserves: [u8; 8], caps: [u8; 8]) -> model::Table
+    ensures { λ r. ⌜ r ≡ freshTable config reserves caps ⌝ }
+{
+    let slots = [free_slot(); 128];
+    let guests = [
+        new_guest(reserves[0], caps[0]),
+        new_guest(reserves[1], caps[1]),
+        new_guest(reserves[2], caps[2]),
+        new_guest(reserves[3], caps[3]),
+        new_guest(reserves[4], caps[4]),
+        new_guest(reserves[5], caps[5]),
+        new_guest(reserves[6], caps[6]),
+        new_guest(reserves[7], caps[7]),
+    ];
+    model::Table {
+        config,
+        slots,
+        guests,
+    }
+}
+
+// The record of a guest; one above 7 has none.
+pub fn guest_at(t: model::Table, guest: u8) -> model::Guest
+    ensures { λ r. ⌜ r ≡ guestAt t guest ⌝ }
+{
+    if 8 <= guest {
+        return new_guest(0, 0);
+    }
+    t.guests[guest as usize]
+}
+
+// The guest, whose record is r, is at most 7 and attached.
+pub fn is_present(guest: u8, r: model::Guest) -> bool
+    ensures { λ b. ⌜ b ≡ present guest r ⌝ }
+{
+    (guest < 8) & r.attached
+}
+
+// The slot names the guest as owner.
+fn owned_by(c: model::Slot, guest: u8) -> bool
+    ensures { λ r. ⌜ r ≡ owned guest (placeOf c) ⌝ }
+{
+    c.held & (c.owner == guest)
+}
+
+// The session in a slot.
+fn session_of(c: model::Slot) -> model::Session
+    ensures { λ r. ⌜ r ≡ placeOf c .session ⌝ }
+{
+    model::Session {
+        service: c.service as u32,
+        algo: c.algo as u32,
+        direction: c.direction as u32,
+        keylen: c.keylen as u32,
+        result: c.result as u32,
+        aad: c.aad,
+    }
+}
+
+// The number was given to the guest with record r, and the slot's session passes step 4.
+fn is_given(k: model::Config, r: model::Guest, number: u64, c: model::Slot) -> bool
+    ensures { λ b. ⌜ b ≡ given k r number (placeOf c) ⌝ }
+{
+    r.attached & (0 < number) & (number <= r.last) & rules::is_accepted(k, session_of(c))
+}
+
+// The slot matches the guest's session number. The rules are looked at only where owner and number fit.
+fn is_live(k: model::Config, r: model::Guest, guest: u8, number: u64, c: model::Slot) -> bool
+    ensures { λ b. ⌜ b ≡ (owned guest (placeOf c) && eqb (c .number) number && given k r number (placeOf c)) ⌝ }
+{
+    if c.held & (c.owner == guest) & (c.number == number) {
+        return is_given(k, r, number, c);
+    }
+    false
+}
+
+// The live session of a number. The one function that searches the slots for a request.
+pub fn lookup(t: model::Table, guest: u8, number: u64) -> Found
+    ensures at { λ r. ⌜ r .at ≡ liveAt t guest number ⌝ }
+    ensures session { λ r. ⌜ r .session ≡ placeAt t (liveAt t guest number) .session ⌝ }
+{
+    let k = t.config;
+    let r = guest_at(t, guest);
+    let mut i: usize = 0;
+    while i < 128 {
+        let c = t.slots[i];
+        if is_live(k, r, guest, number, c) {
+            return Found {
+                at: i,
+                session: session_of(c),
+            };
+        }
+        i += 1;
+    }
+    Found {
+        at: 128,
+        session: session_of(free_slot()),
+    }
+}
+
+// How many slots are held.
+fn held_count(t: model::Table) -> usize
+    ensures { λ r. ⌜ r ≡ total t ⌝ }
+{
+    let mut n: usize = 0;
+    let mut i: usize = 0;
+    while i < 128 {
+        let c = t.slots[i];
+        n += c.held as usize;
+        i += 1;
+    }
+    n
+}
+
+// How many slots the guest holds.
+fn held_by(t: model::Table, guest: u8) -> usize
+    ensures { λ r. ⌜ r ≡ holds t guest ⌝ }
+{
+    let mut n: usize = 0;
+    let mut i: usize = 0;
+    while i < 128 {
+        let c = t.slots[i];
+        n += owned_by(c, guest) as usize;
+        i += 1;
+    }
+    n
+}
+
+// The lowest-numbered free slot, 128 where there is none.
+pub fn first_free(t: model::Table) -> usize
+    ensures { λ r. ⌜ r ≡ freeAt t ⌝ }
+{
+    let mut i: usize = 0;
+    while i < 128 {
+        let c = t.slots[i];
+        if !c.held {
+            return i;
+        }
+        i += 1;
+    }
+    128
+}
+
+// What the guest lacks of its reserve.
+fn unmet(t: model::Table, guest: u8) -> usize
+    ensures { λ r. ⌜ r ≡ unmet t guest ⌝ }
+    ensures bounded { λ r. ⌜ r ≤ 255 ⌝ }
+{
+    let r = guest_at(t, guest);
+    let reserve = r.reserve as usize;
+    let held = held_by(t, guest);
+    if reserve <= held {
+        return 0;
+    }
+    reserve - held
+}
+
+// What the guests but this one lack of their reserves.
+fn owed(t: model::Table, guest: u8) -> usize
+    ensures { λ r. ⌜ r ≡ owed t guest ⌝ }
+    ensures bounded { λ r. ⌜ r ≤ 2040 ⌝ }
+{
+    let mut sum: usize = 0;
+    let mut i: u8 = 0;
+    while i < 8 {
+        if i != guest {
+            sum += unmet(t, i);
+        }
+        i += 1;
+    }
+    sum
+}
+
+// A create of the guest is NOSPC.
+pub fn is_full(t: model::Table, guest: u8) -> bool
+    ensures { λ r. ⌜ r ≡ full t guest ⌝ }
+{
+    let r = guest_at(t, guest);
+    let cap = r.cap as usize;
+    let reserve = r.reserve as usize;
+    let held = held_by(t, guest);
+    let all = held_count(t);
+    (cap <= held) | (reserve <= held) & (128 <= all + owed(t, guest)) | (128 <= all)
+}
+
+// The number that the guest's next session gets, 0 where none is left.
+pub fn next_number(r: model::Guest) -> u64
+    ensures { λ n. ⌜ n ≡ numberAfter (r .last) ⌝ }
+{
+    if 4294967295 <= r.last {
+        return 0;
+    }
+    r.last + 1
+}
+
+// The slot of a session. The rules bound every field but `aad` to a byte.
+fn slot_of(guest: u8, number: u64, x: model::Session) -> model::Slot
+    ensures { λ r. ⌜ r ≡ slotOf (holding guest number (low x)) ⌝ }
+{
+    model::Slot {
+        number,
+        aad: x.aad,
+        held: true,
+        owner: guest,
+        service: (x.service % 256) as u8,
+        algo: (x.algo % 256) as u8,
+        direction: (x.direction % 256) as u8,
+        keylen: (x.keylen % 256) as u8,
+        result: (x.result % 256) as u8,
+    }
+}
+
+// The table with slot `at` replaced.
+fn with_slot(t: model::Table, at: usize, c: model::Slot) -> model::Table
+    ensures { λ r. ⌜ r ≡ withSlot t at (placeOf c) ⌝ }
+{
+    let mut next = t;
+    if at < 128 {
+        next.slots[at] = c;
+    }
+    next
+}
+
+// The table with slot `at` freed.
+pub fn without_slot(t: model::Table, at: usize) -> model::Table
+    ensures { λ r. ⌜ r ≡ withSlot t at free ⌝ }
+{
+    with_slot(t, at, free_slot())
+}
+
+// The table with a guest's record replaced.
+fn with_guest(t: model::Table, guest: u8, r: model::Guest) -> model::Table
+    ensures { λ x. ⌜ x ≡ withGuest t guest r ⌝ }
+{
+    let mut next = t;
+    if guest < 8 {
+        next.guests[guest as usize] = r;
+    }
+    next
+}
+
+// The guest's record with the last number given.
+fn with_last(r: model::Guest, number: u64) -> model::Guest
+    ensures { λ x. ⌜ x ≡ lastly r number ⌝ }
+{
+    let mut next = r;
+    next.last = number;
+    next
+}
+
+// The table with a new session of the guest, whose record is r, in slot `at`.
+pub fn granted(
+    t: model::Table,
+    guest: u8,
+    r: model::Guest,
+    at: usize,
+    number: u64,
+    x: model::Session,
+) -> model::Table
+    ensures { λ u. ⌜ u ≡ withGuest (withSlot t at (holding guest number (low x))) guest (lastly r number) ⌝ }
+{
+    with_guest(
+        with_slot(t, at, slot_of(guest, number, x)),
+        guest,
+        with_last(r, number),
+    )
+}
+
+// The table with every slot of the guest freed. A store only where a slot changes.
+fn without_guest(t: model::Table, guest: u8) -> model::Table
+    ensures { λ r. ⌜ r ≡ without t guest ⌝ }
+{
+    let mut next = t;
+    let f = free_slot();
+    let mut i: usize = 0;
+    while i < 128 {
+        let c = next.slots[i];
+        if owned_by(c, guest) {
+            next.slots[i] = f;
+        }
+        i += 1;
+    }
+    next
+}
+
+// A guest's record after an attach.
+fn restarted(r: model::Guest) -> model::Guest
+    ensures { λ x. ⌜ x ≡ restarted r ⌝ }
+{
+    let mut next = r;
+    next.attached = true;
+    next.last = 0;
+    next
+}
+
+// The table after an attach.
+pub fn attached(t: model::Table, guest: u8) -> model::Table
+    ensures { λ r. ⌜ r ≡ tableAfter t guest attach ⌝ }
+{
+    let r = guest_at(t, guest);
+    with_guest(without_guest(t, guest), guest, restarted(r))
+}
