@@ -10,7 +10,6 @@ use lib.Dec.{eqb, ltb}
 use lib.ListN.{length, List·getD-eq-default}
 use borrow.Author.Tests.{eqb-true, eq-eqb, ltb-true, ltb-false, lt-ltb, leb-true, le-leb, not-true}
 use Rattle.lists.specs.Test.{false-true, and-true, implies, implied}
-use Rattle.lists.specs.Seek.{index-first, first-passes}
 use Rattle.model.specs.declared.Table.{Table}
 use Rattle.model.specs.Bytes.{le32}
 use Rattle.model.specs.Answer.{ok, Check, firstFail, granted}
@@ -23,6 +22,7 @@ use Rattle.model.specs.Data.{number, flag, directionOf, start, lengths, dataChe
 use Rattle.model.specs.Device.{Request, Attach, Control, Admit, Part, KeyAnswer, Key, Finish, checksOf, checks, outcome, reply}
 use Rattle.model.specs.Device as Device
 use Rattle.model.specs.Setup.{setUpChecks, setUpAnswer}
+use Rattle.laws.specs.Found.{found-live}
 use Rattle.laws.specs.Judge.{Passed, answers, answers-of, passed-first, first-passed, first-failed, holds-at}
 use Rattle.demands.specs.Statement.{success, Answered, Demand2, SetUpAnswered, named, Acceptable}
 
@@ -99,11 +99,7 @@ demand2 w g q = answered (checks w g q) (reply w g q .answer) (success q) (answe
 
 -- ---- the session that a data request names
 
--- a search that ended within the slots found a live session
-found-live : (t : Table) (g n : ℕ) → liveAt t g n < length (slotsOf t) → live t g n (placeAt t (liveAt t g n)) ≡ true
-found-live t g n h = first-passes (live t g n) (placeAt t (liveAt t g n)) (slotsOf t) (index-first (live t g n) free (slotsOf t) h)
-
--- and one that ended behind them found none
+-- a search that ended behind the slots found no live session
 live-found : (t : Table) (g n : ℕ) → live t g n (placeAt t (liveAt t g n)) ≡ true → ltb (liveAt t g n) (length (slotsOf t)) ≡ true
 live-found t g n e = go (ltb (liveAt t g n) (length (slotsOf t))) refl
   where

@@ -72,10 +72,10 @@ module _ (w : World) (g : ℕ) (q : Request) (a : ℕ) (e : a ≡ firstFail (che
 
 -- ---- data requests and finish do not look at the key store
 
-find-session : (w : World) (g n : ℕ)
+pub find-bare : (w : World) (g n : ℕ)
     → (isLive (find w g n) ≡ isLive (find (bare (w .table)) g n)) × (sessionIn (find w g n) ≡ sessionIn (find (bare (w .table)) g n))
 unfolding find
-find-session w g n = go (ltb (liveAt (w .table) g n) (length (slotsOf (w .table))))
+find-bare w g n = go (ltb (liveAt (w .table) g n) (length (slotsOf (w .table))))
   where
     at : ℕ
     at = liveAt (w .table) g n
@@ -89,7 +89,7 @@ find-session w g n = go (ltb (liveAt (w .table) g n) (length (slotsOf (w .table)
 
 data-first : (w : World) (g : ℕ) (r b : List ℕ) → firstFail (checks w g (Admit r b)) ≡ firstFail (checks (bare (w .table)) g (Admit r b))
 unfolding checks checksOf
-data-first w g r b = rw (find-session w g (number r) .0, find-session w g (number r) .1)
+data-first w g r b = rw (find-bare w g (number r) .0, find-bare w g (number r) .1)
 
 pub bare-admit : (w : World) (g : ℕ) (r b : List ℕ) → reply w g (Admit r b) ≡ reply (bare (w .table)) g (Admit r b)
 unfolding reply outcome

@@ -1,42 +1,61 @@
 -- The live session that a search of the slots found, and its key as a part of the store: laws for the proofs of the public calls.
 -- Assumes nothing.
-use mathlib.Core.Path.{_≡_, sym, ap, _∙_}
-use mathlib.Core.Bool.{true, false}
-use mathlib.Core.Option.{none, some}
+use mathlib.Core.Path.{_≡_, refl, sym, ap, _∙_}
+use mathlib.Core.Bool.{Bool, true, false, cond}
+use mathlib.Core.Option.{Option, none, some}
 use mathlib.Core.List.{List, [], _∷_}
 use Prim.Native.Nat.{ℕ, zero, suc, _+_, _*_, _≤_, _<_}
 use native.Mathlib.Nat.{suc-add, zero-add}
-use lib.ListN.{length, take, drop}
+use native.Mathlib.Omega.{arith}
+use lib.Dec.{ltb}
+use lib.ListN.{length, take, drop, List·getD-eq-default}
 use lib.Seq.{drop-drop, take-take, take-nil}
-use borrow.Author.Tests.{lt-ltb, le-ltb}
+use borrow.Author.Tests.{ltb-true, ltb-false}
+use Rattle.lists.specs.Test.{false-true}
+use Rattle.lists.specs.Seek.{first-passes, index-first}
 use Rattle.model.specs.Bytes.{part}
 use Rattle.model.specs.declared.Session.{Session}
-use Rattle.model.specs.Session.{areaSize, World, noSession, slotsOf, placeAt, area, keyStart, keyLen, keyOf}
-use Rattle.model.specs.View.{find, liveAt, entryAt, isLive, sessionIn}
+use Rattle.model.specs.declared.Table.{Table}
+use Rattle.model.specs.Session.{areaSize, World, Entry, free, slotsOf, placeAt, area, keyStart, keyLen, keyOf}
+use Rattle.model.specs.View.{find, live, liveAt, entryAt, isLive, sessionIn}
 use Rattle.model.specs.Data.{keyBytes}
 
--- i is the place that the search gave
-module _ (w : World) (g n i : ℕ) (e : i ≡ liveAt (w .table) g n) where
-  pub found-some : i < length (slotsOf (w .table)) → find w g n ≡ some (entryAt w i)
+-- a search that ended within the slots found a live session
+pub found-live : (t : Table) (g n : ℕ) → liveAt t g n < length (slotsOf t) → live t g n (placeAt t (liveAt t g n)) ≡ true
+found-live t g n h = first-passes (live t g n) (placeAt t (liveAt t g n)) (slotsOf t) (index-first (live t g n) free (slotsOf t) h)
+
+-- ---- what the place i of the search tells of the session, in a table of 128 slots
+
+alive-by : (b : Bool) (e : Entry) → b ≡ isLive (cond b (some e) none)
+alive-by true e = refl
+alive-by false e = refl
+
+module _ (w : World) (g n i : ℕ) (m : length (slotsOf (w .table)) ≡ 128) (e : i ≡ liveAt (w .table) g n) where
+  found : find w g n ≡ cond (ltb i 128) (some (entryAt w i)) none
   unfolding find
-  found-some h = rw (← e, lt-ltb i (length (slotsOf (w .table))) h)
+  found = rw (m, e)
 
-  pub found-none : length (slotsOf (w .table)) ≤ i → find w g n ≡ none
-  unfolding find
-  found-none h = rw (← e, le-ltb i (length (slotsOf (w .table))) h)
+  pub found-alive : ltb i 128 ≡ isLive (find w g n)
+  found-alive = alive-by (ltb i 128) (entryAt w i) ∙ sym (ap isLive found)
 
-  -- as `keyChecks` and `dataChecks` have it
-  pub live-some : i < length (slotsOf (w .table)) → true ≡ isLive (find w g n)
-  live-some h = sym (ap isLive (found-some h))
+  pub found-session : placeAt (w .table) i .session ≡ sessionIn (find w g n)
+  found-session = go (ltb i 128) refl ∙ sym (ap sessionIn found)
+    where
+      go : (b : Bool) → ltb i 128 ≡ b → placeAt (w .table) i .session ≡ sessionIn (cond b (some (entryAt w i)) none)
+      go true q = refl
+      go false q = rw (List·getD-eq-default (slotsOf (w .table)) free {n = i} (omega (arith, ltb-false i 128 q)))
 
-  pub live-none : length (slotsOf (w .table)) ≤ i → false ≡ isLive (find w g n)
-  live-none h = sym (ap isLive (found-none h))
-
-  pub session-some : i < length (slotsOf (w .table)) → placeAt (w .table) i .session ≡ sessionIn (find w g n)
-  session-some h = sym (ap sessionIn (found-some h))
-
-  pub session-none : length (slotsOf (w .table)) ≤ i → noSession ≡ sessionIn (find w g n)
-  session-none h = sym (ap sessionIn (found-none h))
+-- a live session is the one at the place of the search
+pub alive-found : (w : World) (g n : ℕ) → isLive (find w g n) ≡ true
+    → (liveAt (w .table) g n < length (slotsOf (w .table))) × (find w g n ≡ some (entryAt w (liveAt (w .table) g n)))
+unfolding find
+alive-found w g n h = go (ltb (liveAt (w .table) g n) (length (slotsOf (w .table)))) refl h
+  where
+    go : (b : Bool) → ltb (liveAt (w .table) g n) (length (slotsOf (w .table))) ≡ b
+        → isLive (cond b (some (entryAt w (liveAt (w .table) g n))) none) ≡ true
+        → (liveAt (w .table) g n < length (slotsOf (w .table))) × (cond b (some (entryAt w (liveAt (w .table) g n))) none ≡ some (entryAt w (liveAt (w .table) g n)))
+    go true q h = (ltb-true (liveAt (w .table) g n) (length (slotsOf (w .table))) q, refl)
+    go false q h = absurd (false-true h)
 
 -- ---- keys
 
@@ -55,12 +74,14 @@ part-area b i at n h =
     ∙ ap (drop at) (sym (take-take (at + n) areaSize l h))
     ∙ sym (take-drop n at (take areaSize l))
 
--- the key of the session x in slot i, which the code cuts from the store
-pub key-some : (w : World) (g n i : ℕ) (x : Session) → i ≡ liveAt (w .table) g n → i < length (slotsOf (w .table)) → x ≡ placeAt (w .table) i .session
+-- the key of the live session x at place i, which the code cuts from the store
+pub key-found : (w : World) (g n i : ℕ) (x : Session) → i ≡ liveAt (w .table) g n → isLive (find w g n) ≡ true → x ≡ sessionIn (find w g n)
     → keyStart (x .service) + keyLen x ≤ areaSize
     → part (w .store) (areaSize * i + keyStart (x .service)) (keyLen x) ≡ keyBytes (find w g n)
 unfolding keyOf
-key-some w g n i x e h q k =
+key-found w g n i x e h q k =
+    let f = alive-found w g n h .1 in
     part-area (w .store) i (keyStart (x .service)) (keyLen x) k
-    ∙ ap (λ (y : Session). part (area i (w .store)) (keyStart (y .service)) (keyLen y)) q
-    ∙ sym (ap keyBytes (found-some w g n i e h))
+    ∙ ap (λ (j : ℕ). part (area j (w .store)) (keyStart (x .service)) (keyLen x)) e
+    ∙ ap (λ (y : Session). part (area (liveAt (w .table) g n) (w .store)) (keyStart (y .service)) (keyLen y)) (q ∙ ap sessionIn f)
+    ∙ sym (ap keyBytes f)

@@ -11,7 +11,7 @@ use mir.Val.{boolByte}
 use denote.Laws.{Is}
 use denote.Struct.Declared.{row}
 use denote.Struct.Laws.{val}
-use lib.Dec.{eqb, leb}
+use lib.Dec.{eqb, leb, ltb}
 use lib.ListN.{length, getD, drop, length-map, List·getD-eq-default}
 use lib.Seq.{set-out}
 use Rattle.lists.specs.Seek.{one, count, index, count-not}
@@ -22,10 +22,12 @@ use Rattle.model.specs.declared.Session.{Session}
 use Rattle.model.specs.declared.Slot.{Slot}
 use Rattle.model.specs.declared.Table.{Table}
 use Rattle.model.specs.Session.{Place, free, slotOf, placeOf, slotsOf, placeAt}
-use Rattle.model.specs.View.{isHeld, isFree, owned, total}
+use Rattle.model.specs.View.{isHeld, isFree, owned, liveAt, total, find, isLive, sessionIn}
 use Rattle.model.specs.Act.{withSlot, without}
+use Rattle.model.specs.Device.{bare}
 use Rattle.laws.specs.Loops.{count-more, count-end, index-here, index-later, index-end, mapBelow, below-at, below-more, below-skip, below-all}
 use Rattle.laws.specs.Slots.{slots-length, place-at}
+use Rattle.laws.specs.Found.{found-alive, found-session}
 
 -- ---- what `c .good .K` and `c .f .ok` tell of a table
 
@@ -93,14 +95,14 @@ module _ (t : Table) (g : Good t) (p : Place → Bool) (i : ℕ) where
   pub slots-searched : 128 ≤ i → index p (drop i (slotsOf t)) ≡ 0
   slots-searched h = index-end p (slotsOf t) i (outside h)
 
--- the session x of slot c, where the search that found j ended at c, slot i
-pub slots-session : (t : Table) (i j : ℕ) (c : Slot) (x : Session) → i ≡ j → c ≡ getD (t .slots) i (slotOf free) → x ≡ placeOf c .session
-    → x ≡ placeAt t j .session
-slots-session t i j c x e f h =
-    h
-    ∙ ap (λ (d : Slot). placeOf d .session) f
-    ∙ sym (ap (λ (q : Place). q .session) (place-at t i))
-    ∙ ap (λ (k : ℕ). placeAt t k .session) e
+-- what the search for session n of guest h found, where it ended at i and slot c there holds the session x
+pub slots-found : (t : Table) → Good t → (h n i : ℕ) (c : Slot) (x : Session) → i ≡ liveAt t h n → c ≡ getD (t .slots) i (slotOf free)
+    → x ≡ placeOf c .session
+    → (i ≡ liveAt t h n) × ((ltb i 128 ≡ isLive (find (bare t) h n)) × (x ≡ sessionIn (find (bare t) h n)))
+slots-found t g h n i c x e f k =
+    let m = slots-length t ∙ length-slots t g in
+    let there : x ≡ placeAt t i .session = k ∙ ap (λ (d : Slot). placeOf d .session) f ∙ sym (ap (λ (q : Place). q .session) (place-at t i)) in
+    (e, (found-alive (bare t) h n i m e, there ∙ found-session (bare t) h n i m e))
 
 -- ---- a loop that frees the slots of a guest
 

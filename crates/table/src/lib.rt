@@ -1,12 +1,13 @@
 // The session table by value: whose slot is whose, the live session of a number, room for one more, and the tables that calls leave.
 ghost use mathlib.Core.Path.{_≡_};
-ghost use mathlib.Core.Bool.{_&&_};
+ghost use mathlib.Core.Bool.{_&&_, not};
 ghost use Prim.Native.Nat.{_≤_, _-_};
-ghost use lib.Dec.{eqb};
-ghost use Rattle.model.specs.Session.{free, holding, slotOf, placeOf, placeAt, newGuest, guestAt};
-ghost use Rattle.model.specs.View.{owned, given, freeAt, liveAt, holds, total, unmet, owed, full, present};
+ghost use lib.Dec.{eqb, ltb};
+ghost use Rattle.model.specs.Session.{free, holding, slotOf, placeOf, newGuest, guestAt};
+ghost use Rattle.model.specs.View.{owned, given, freeAt, liveAt, find, isLive, sessionIn, holds, total, unmet, owed, full, present};
 ghost use Rattle.model.specs.Act.{attach, withSlot, without, withGuest, restarted, tableAfter};
 ghost use Rattle.model.specs.Setup.{freshTable};
+ghost use Rattle.model.specs.Device.{bare};
 ghost use Rattle.table.specs.Narrow.{low, lastly, numberAfter};
 
 // The place of a live session, 128 where there is none, and the session, all 0 where there is none.
@@ -124,7 +125,8 @@ fn is_live(k: model::Config, r: model::Guest, guest: u8, number: u64, c: model::
 // The live session of a number. The one function that searches the slots for a request.
 pub fn lookup(t: model::Table, guest: u8, number: u64) -> Found
     ensures at { λ r. ⌜ r .at ≡ liveAt t guest number ⌝ }
-    ensures session { λ r. ⌜ r .session ≡ placeAt t (liveAt t guest number) .session ⌝ }
+    ensures alive { λ r. ⌜ ltb (r .at) 128 ≡ isLive (find (bare t) guest number) ⌝ }
+    ensures session { λ r. ⌜ r .session ≡ sessionIn (find (bare t) guest number) ⌝ }
 {
     let k = t.config;
     let r = guest_at(t, guest);
@@ -219,7 +221,7 @@ fn owed(t: model::Table, guest: u8) -> usize
 }
 
 // A create of the guest is NOSPC.
-pub fn is_full(t: model::Table, guest: u8) -> bool
+fn is_full(t: model::Table, guest: u8) -> bool
     ensures { λ r. ⌜ r ≡ full t guest ⌝ }
 {
     let r = guest_at(t, guest);
@@ -228,6 +230,13 @@ pub fn is_full(t: model::Table, guest: u8) -> bool
     let held = held_by(t, guest);
     let all = held_count(t);
     (cap <= held) | (reserve <= held) & (128 <= all + owed(t, guest)) | (128 <= all)
+}
+
+// A create of the guest is not NOSPC.
+pub fn has_room(t: model::Table, guest: u8) -> bool
+    ensures { λ r. ⌜ r ≡ not (full t guest) ⌝ }
+{
+    !is_full(t, guest)
 }
 
 // The number that the guest's next session gets, 0 where none is left.

@@ -7,7 +7,7 @@ use borrow.Author.Needs.{needs}
 use lib.Dec.{eqb}
 use lib.ListN.{drop, getD}
 use Rattle.lists.specs.Seek.{index}
-use Rattle.laws.specs.Walk.{slot-past, slots-here, slots-later, slots-searched, slots-session}
+use Rattle.laws.specs.Walk.{slot-past, slots-here, slots-later, slots-searched, slots-found}
 use Rattle.model.specs.declared.Guest.{Guest}
 use Rattle.model.specs.declared.Slot.{Slot}
 use Rattle.model.specs.declared.Table.{Table}
@@ -45,7 +45,7 @@ returns c =
     let e = seen (a .t1) (a .guest) (a .number) i (guest .result) (found .result) (guest .ensures) (found .ensures) in
     let here = slots-here (a .t1) (start .good .0) (live (a .t1) (a .guest) (a .number)) i (found .result) (omega arith) e (c .before .if1 .taken) in
     let at : i ≡ liveAt (a .t1) (a .guest) (a .number) = omega arith in
-    (at, slots-session (a .t1) i _ _ _ at refl (c .session-of .ensures))
+    slots-found (a .t1) (start .good .0) (a .guest) (a .number) i _ _ at refl (c .session-of .ensures)
 
 loop-again : tie.Need-loop-again Inv-loop μ-loop
 unfolding slotOf
@@ -64,10 +64,9 @@ returns-2 c =
     let a = start .args in
     let i = c .before .before .before .loop .i in
     let end = slots-searched (a .t1) (start .good .0) (live (a .t1) (a .guest) (a .number)) i (omega arith) in
-    let at : 128 ≡ liveAt (a .t1) (a .guest) (a .number) = omega arith in (
-      at,
-      slots-session (a .t1) 128 _ _ _ at (c .before .free-slot .ensures ∙ slot-past (a .t1) (start .good .0) 128 (omega arith)) (c .session-of2 .ensures),
-    )
+    let at : 128 ≡ liveAt (a .t1) (a .guest) (a .number) = omega arith in
+    let past = c .before .free-slot .ensures ∙ slot-past (a .t1) (start .good .0) 128 (omega arith) in
+    slots-found (a .t1) (start .good .0) (a .guest) (a .number) 128 _ _ at past (c .session-of2 .ensures)
 
 pub lookup-spec : {M : Type 1} → statement M
 lookup-spec =
