@@ -1,23 +1,23 @@
 -- The live session that a search of the slots found, and its key as a part of the store: laws for the proofs of the public calls.
 -- Assumes nothing.
 use mathlib.Core.Path.{_≡_, refl, sym, ap, _∙_}
-use mathlib.Core.Bool.{Bool, true, false, cond}
+use mathlib.Core.Bool.{Bool, true, false, cond, _&&_}
 use mathlib.Core.Option.{Option, none, some}
 use mathlib.Core.List.{List, [], _∷_}
 use Prim.Native.Nat.{ℕ, zero, suc, _+_, _*_, _≤_, _<_}
 use native.Mathlib.Nat.{suc-add, zero-add}
 use native.Mathlib.Omega.{arith}
-use lib.Dec.{ltb}
+use lib.Dec.{eqb, leb, ltb}
 use lib.ListN.{length, take, drop, List·getD-eq-default}
 use lib.Seq.{drop-drop, take-take, take-nil}
 use borrow.Author.Tests.{ltb-true, ltb-false}
-use Rattle.lists.specs.Test.{false-true}
+use Rattle.lists.specs.Test.{false-true, and-true}
 use Rattle.lists.specs.Seek.{first-passes, index-first}
 use Rattle.model.specs.Bytes.{part}
 use Rattle.model.specs.declared.Session.{Session}
 use Rattle.model.specs.declared.Table.{Table}
-use Rattle.model.specs.Session.{areaSize, World, Entry, free, slotsOf, placeAt, area, keyStart, keyLen, keyOf}
-use Rattle.model.specs.View.{find, live, liveAt, entryAt, isLive, sessionIn}
+use Rattle.model.specs.Session.{areaSize, World, Entry, free, slotsOf, placeAt, guestAt, area, keyStart, keyLen, keyOf, accepts}
+use Rattle.model.specs.View.{find, owned, given, live, liveAt, entryAt, isLive, sessionIn}
 use Rattle.model.specs.Data.{keyBytes}
 
 -- a search that ended within the slots found a live session
@@ -56,6 +56,15 @@ alive-found w g n h = go (ltb (liveAt (w .table) g n) (length (slotsOf (w .table
         → (liveAt (w .table) g n < length (slotsOf (w .table))) × (cond b (some (entryAt w (liveAt (w .table) g n))) none ≡ some (entryAt w (liveAt (w .table) g n)))
     go true q h = (ltb-true (liveAt (w .table) g n) (length (slotsOf (w .table))) q, refl)
     go false q h = absurd (false-true h)
+
+-- and it passes step 4
+pub alive-accepted : (w : World) (g n : ℕ) → isLive (find w g n) ≡ true → accepts (w .table .config) (sessionIn (find w g n)) ≡ true
+alive-accepted w g n h =
+    let (inside, here) = alive-found w g n h in
+    let c = placeAt (w .table) (liveAt (w .table) g n) in
+    let r = guestAt (w .table) g in
+    let l = and-true (owned g c && eqb (c .number) n) (given (w .table .config) r n c) (found-live (w .table) g n inside) .1 in
+    rw here (and-true (r .attached && ltb 0 n && leb n (r .last)) (accepts (w .table .config) (c .session)) l .1)
 
 -- ---- keys
 

@@ -10,3 +10,4 @@ pub mod Areas
 pub mod Found
 pub mod Loops
 pub mod Walk
+pub mod Bounds

@@ -1,12 +1,12 @@
 -- Loops over the slots of a table, with slot i as the code reads it, and how many slots and guests a table has.
 -- Assumes nothing.
 use mathlib.Core.Path.{_≡_, refl, sym, ap, _∙_}
-use mathlib.Core.Bool.{Bool, true, false, cond}
+use mathlib.Core.Bool.{Bool, true, false, cond, _&&_, _||_}
 use mathlib.Core.List.{[], _∷_}
 use Prim.Native.Nat.{ℕ, zero, suc, _+_, _≤_, _<_}
 use native.Mathlib.Numerals.{add-one}
 use native.Mathlib.Omega.{arith}
-use borrow.Author.Tests.{le-leb, lt-leb, eq-eqb, ne-eqb}
+use borrow.Author.Tests.{le-leb, lt-leb, lt-ltb, eq-eqb, ne-eqb, eqb-false}
 use mir.Val.{boolByte}
 use denote.Laws.{Is}
 use denote.Struct.Declared.{row}
@@ -14,15 +14,16 @@ use denote.Struct.Laws.{val}
 use lib.Dec.{eqb, leb, ltb}
 use lib.ListN.{length, getD, drop, length-map, List·getD-eq-default}
 use lib.Seq.{set-out}
-use Rattle.lists.specs.Seek.{one, count, index, count-not}
+use Rattle.lists.specs.Seek.{one, count, index, count-not, first-some, first-index}
 use Rattle.lists.specs.Sum.{sumTo, except}
+use Rattle.lists.specs.Test.{or-false}
 use Rattle.model.proofs.Table.{the-type}
 use Rattle.model.proofs.Table.Laws.{the-laws}
 use Rattle.model.specs.declared.Session.{Session}
 use Rattle.model.specs.declared.Slot.{Slot}
 use Rattle.model.specs.declared.Table.{Table}
-use Rattle.model.specs.Session.{Place, free, slotOf, placeOf, slotsOf, placeAt}
-use Rattle.model.specs.View.{isHeld, isFree, owned, liveAt, total, find, isLive, sessionIn}
+use Rattle.model.specs.Session.{Place, free, slotOf, placeOf, slotsOf, placeAt, guestAt}
+use Rattle.model.specs.View.{isHeld, isFree, owned, freeAt, liveAt, holds, total, owed, noRoom, full, find, isLive, sessionIn}
 use Rattle.model.specs.Act.{withSlot, without}
 use Rattle.model.specs.Device.{bare}
 use Rattle.laws.specs.Loops.{count-more, count-end, index-here, index-later, index-end, mapBelow, below-at, below-more, below-skip, below-all}
@@ -150,3 +151,14 @@ module _ (g i : ℕ) (f : ℕ → ℕ) where
   pub others-skip : i ≡ g → sumTo (i + 1) (except g f) ≡ sumTo i (except g f)
   unfolding sumTo
   others-skip e = rw (add-one i, eq-eqb i g e) (omega arith)
+
+-- ---- a guest that has room finds a free slot
+
+pub free-inside : (t : Table) → Good t → (g : ℕ) → full t g ≡ false → ltb (freeAt t) 128 ≡ true
+unfolding full noRoom
+free-inside t k g h =
+    let r = guestAt t g in
+    let d = eqb-false (count isFree (slotsOf t)) 0 (or-false (leb (r .cap) (holds t g) || leb (r .reserve) (holds t g) && leb 128 (total t + owed t g)) (eqb (count isFree (slotsOf t)) 0) h .1) in
+    let some = first-some isFree (slotsOf t) (omega (arith, d)) in
+    let inside = first-index isFree (some .0) free (slotsOf t) (some .1) .0 in
+    lt-ltb (freeAt t) 128 (omega (arith, slots-length t, length-slots t k))

@@ -1,0 +1,43 @@
+-- The checks of the calls, as the functions of this crate ask for them: of table t, guest g, readable bytes r, `room` writable bytes and a key
+-- store of `store` bytes. Each is a list of the crate model.
+use Prim.Native.Nat.{ℕ}
+use mathlib.Core.Bool.{not}
+use mathlib.Core.List.{List, [], _∷_, _++_}
+use lib.Dec.{ltb}
+use lib.ListN.{length}
+use Rattle.model.specs.declared.Table.{Table}
+use Rattle.model.specs.Bytes.{le32}
+use Rattle.model.specs.Answer.{err, nospc, Check}
+use Rattle.model.specs.Session.{guestAt}
+use Rattle.model.specs.View.{Setting, view, full, find, isLive, present}
+use Rattle.model.specs.Control.{opcode, plainCreate, asked, placeChecks, headChecks, sessionChecks, numbersLeft, createChecks, destroyChecks}
+use Rattle.model.specs.Data.{number, dataChecks, keyChecks}
+use Rattle.model.specs.Device.{bare}
+
+abbrev pub settingOf : Table → ℕ → Setting
+settingOf t store = record { config = t .config; store = store }
+
+-- a create's, and its three stages
+abbrev pub creation : Table → ℕ → List ℕ → ℕ → ℕ → List Check
+creation t g r room store = createChecks (settingOf t store) g (view (bare t) g) (full t g) r room
+
+abbrev pub opening : Table → ℕ → List ℕ → ℕ → ℕ → List Check
+opening t g r room store = placeChecks store (present g (guestAt t g)) room ++ headChecks (t .config) (opcode r) (length r) room
+
+abbrev pub form : Table → List ℕ → List Check
+form t r = sessionChecks (t .config) (plainCreate r) (le32 r 4) (asked r) (length r)
+
+abbrev pub chance : Table → ℕ → List Check
+chance t g = (numbersLeft (view (bare t) g), err) ∷ (not (full t g), nospc) ∷ []
+
+-- a destroy's
+abbrev pub destruction : Table → ℕ → List ℕ → ℕ → ℕ → List Check
+destruction t g r room store = destroyChecks (settingOf t store) g (view (bare t) g) r room
+
+-- a data request's
+abbrev pub admission : Table → ℕ → List ℕ → ℕ → List Check
+admission t g r room = dataChecks (t .config) (present g (guestAt t g)) (find (bare t) g (number r)) r room
+
+-- a key fetch's
+abbrev pub fetching : Table → ℕ → ℕ → ℕ → List Check
+fetching t g n store = keyChecks store (present g (guestAt t g)) (isLive (find (bare t) g n))
