@@ -19,11 +19,12 @@ use Rattle.lists.specs.Sum.{sumTo, except}
 use Rattle.lists.specs.Test.{or-false}
 use Rattle.model.proofs.Table.{the-type}
 use Rattle.model.proofs.Table.Laws.{the-laws}
+use Rattle.model.specs.declared.Guest.{Guest}
 use Rattle.model.specs.declared.Session.{Session}
 use Rattle.model.specs.declared.Slot.{Slot}
 use Rattle.model.specs.declared.Table.{Table}
 use Rattle.model.specs.Session.{Place, free, slotOf, placeOf, slotsOf, placeAt, guestAt}
-use Rattle.model.specs.View.{isHeld, isFree, owned, freeAt, liveAt, holds, total, owed, noRoom, full, find, isLive, sessionIn}
+use Rattle.model.specs.View.{isHeld, isFree, owned, freeAt, liveAt, holds, total, unmet, owed, noRoom, full, find, isLive, sessionIn}
 use Rattle.model.specs.Act.{withSlot, without}
 use Rattle.model.specs.Device.{bare}
 use Rattle.laws.specs.Loops.{count-more, count-end, index-here, index-later, index-end, mapBelow, below-at, below-more, below-skip, below-all}
@@ -140,6 +141,12 @@ module _ (t u : Table) (g i : ℕ) (b : Bool) (e : u ≡ freedBelow t g i) (f : 
   freed-skip y =
       let v : freed g (getD (t .slots) i (slotOf free)) ≡ getD (t .slots) i (slotOf free) = rw (there ∙ y) in
       e ∙ rw (add-one i, ← below-skip (freed g) (t .slots) i (slotOf free) v)
+
+-- ---- what a guest lacks of its reserve; r is its record, and it holds n
+
+-- nothing, where it holds that many
+pub unmet-none : (t : Table) (g n : ℕ) (r : Guest) → r ≡ guestAt t g → n ≡ holds t g → r .reserve ≤ n → 0 ≡ unmet t g
+unmet-none t g n r e f h = rw (← e, ← f) (omega arith)
 
 -- ---- a loop over the guests that sums what those but g lack
 

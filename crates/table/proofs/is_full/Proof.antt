@@ -16,7 +16,7 @@ unfolding full noRoom
 returns c =
     let start = c .before .before .before .before .before .before in
     let none = none-free (start .args .t) (start .good .0) in
-    cc
+    rw (c .before .before .before .before .before .guest-at .ensures, c .before .before .held-by .ensures, c .before .held-count .ensures, c .owed .ensures .0, none)
 
 pub is-full-spec : {M : Type 1} → statement M
 is-full-spec =
