@@ -3,6 +3,7 @@ ghost use mathlib.Core.Path.{_≡_};
 ghost use mathlib.Core.Bool.{_&&_, not};
 ghost use Prim.Native.Nat.{_≤_, _-_};
 ghost use lib.Dec.{eqb, ltb};
+ghost use lib.ListN.{getD};
 ghost use Rattle.model.specs.Session.{free, holding, slotOf, placeOf, newGuest, guestAt};
 ghost use Rattle.model.specs.View.{owned, given, freeAt, liveAt, find, isLive, sessionIn, holds, total, unmet, owed, full, present};
 ghost use Rattle.model.specs.Act.{attach, withSlot, without, withGuest, restarted, tableAfter};
@@ -67,14 +68,22 @@ pub fn fresh(config: model::Config, reserves: [u8; 8], caps: [u8; 8]) -> model::
     }
 }
 
-// The record of a guest; one above 7 has none.
-pub fn guest_at(t: model::Table, guest: u8) -> model::Guest
-    ensures { λ r. ⌜ r ≡ guestAt t guest ⌝ }
+// Guest's record among the eight; one above 7 has none.
+fn guest_of(guests: [model::Guest; 8], guest: u8) -> model::Guest
+    ensures { λ r. ⌜ r ≡ getD guests guest (newGuest 0 0) ⌝ }
 {
     if 8 <= guest {
         return new_guest(0, 0);
     }
-    t.guests[guest as usize]
+    guests[guest as usize]
+}
+
+// The record of a guest; one above 7 has none. Only the eight records are copied from the table.
+pub fn guest_at(t: model::Table, guest: u8) -> model::Guest
+    ensures { λ r. ⌜ r ≡ guestAt t guest ⌝ }
+{
+    let guests = t.guests;
+    guest_of(guests, guest)
 }
 
 // The guest, whose record is r, is at most 7 and attached.
