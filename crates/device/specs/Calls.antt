@@ -1,26 +1,24 @@
 -- The ways out of the public calls: a law for each, with what the callees' contracts say as premises and the call's own contract as conclusion.
 -- Assumes nothing.
-use Prim.Native.Nat.{ℕ, suc, _+_, _%_, _≤_, _<_}
+use Prim.Native.Nat.{ℕ}
 use mathlib.Core.Path.{_≡_, refl, sym, ap, _∙_}
-use mathlib.Core.Bool.{Bool, true, false, cond, not, _&&_}
-use mathlib.Core.List.{List, [], _∷_}
-use lib.Dec.{eqb, leb, ltb}
+use mathlib.Core.Bool.{Bool, true}
+use mathlib.Core.List.{List, []}
+use lib.Dec.{ltb}
 use lib.ListN.{length, replicate}
-use native.Mathlib.Omega.{arith}
-use borrow.Author.Tests.{eq-eqb, ne-eqb, eqb-true, not-true}
-use Rattle.lists.specs.Test.{and-true, false-true}
+use borrow.Author.Tests.{eq-eqb, ne-eqb, eqb-true}
 use Rattle.model.specs.declared.Config.{Config}
 use Rattle.model.specs.declared.Field.{Field}
 use Rattle.model.specs.declared.Session.{Session}
 use Rattle.model.specs.declared.Table.{Table}
 use Rattle.model.specs.Bytes.{le32, le64}
 use Rattle.model.specs.Answer.{ok, firstFail, dataOutcome, dataBytes}
-use Rattle.model.specs.Session.{World, slotsOf, guestAt, placeAt}
-use Rattle.model.specs.View.{owned, live, given, liveAt, find, isLive, sessionIn, present}
+use Rattle.model.specs.Session.{World, slotsOf, guestAt}
+use Rattle.model.specs.View.{owned, liveAt, find, isLive, sessionIn, present}
 use Rattle.model.specs.Act.{attach, wipe, tableAfter, storeAfter}
 use Rattle.model.specs.Setup.{configOf, setUpOrder, setUpAnswer, freshTable, setUp, attachChecks}
-use Rattle.model.specs.Data.{number, partOf, finishChecks, status, keyBytes}
-use Rattle.model.specs.Device.{Request, Attach, Admit, Part, KeyAnswer, Key, Finish, Job, noJob, Outcome, checksOf, outcome, checks, reply, next, world, bare}
+use Rattle.model.specs.Data.{number, partOf, finishChecks, status}
+use Rattle.model.specs.Device.{Attach, Admit, Part, KeyAnswer, Key, Finish, noJob, Outcome, checksOf, outcome, checks, reply, next, world, bare}
 use Rattle.laws.specs.Judge.{first-passed}
 use Rattle.laws.specs.Effect.{replied, granted-next, refused-next, find-bare}
 use Rattle.laws.specs.Found.{alive-accepted, key-found}

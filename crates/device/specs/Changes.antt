@@ -1,13 +1,12 @@
 -- The ways out of `create`, `destroy` and `control`: a law for each, with what the callees' contracts say as premises.
 -- Assumes nothing.
-use Prim.Native.Nat.{ℕ, suc, _+_, _%_, _≤_, _<_}
+use Prim.Native.Nat.{ℕ, suc, _+_, _%_}
 use mathlib.Core.Path.{_≡_, refl, sym, ap, _∙_}
 use mathlib.Core.Logic.{_⊎_, ⊎-elim}
-use mathlib.Core.Bool.{Bool, true, false, cond, not, _&&_}
+use mathlib.Core.Bool.{true, false, cond}
 use mathlib.Core.List.{List}
-use lib.Dec.{eqb, leb, ltb}
+use lib.Dec.{eqb, ltb}
 use lib.ListN.{length}
-use native.Mathlib.Omega.{arith}
 use borrow.Author.Tests.{eq-eqb, ne-eqb, ltb-true, lt-leb, not-true}
 use Rattle.lists.specs.Test.{same, and-true, both-ways}
 use Rattle.model.specs.declared.Guest.{Guest}
@@ -18,8 +17,8 @@ use Rattle.model.specs.Answer.{ok, firstFail, controlBytes}
 use Rattle.model.specs.Session.{lastNumber, World, holding, guestAt, zeros, areaOf, free}
 use Rattle.model.specs.View.{setting, view, full, freeAt, liveAt, find, isLive}
 use Rattle.model.specs.Act.{Act, create, destroy, withSlot, withGuest, numbered, tableAfter, storeAfter}
-use Rattle.model.specs.Control.{isCreate, asked, createPart, newEntry, createChecks, destroyChecks, controlChecks, controlAct}
-use Rattle.model.specs.Device.{Control, Outcome, ifGranted, checksOf, outcome, checks, reply, next, world, bare}
+use Rattle.model.specs.Control.{isCreate, asked, createPart, newEntry, destroyChecks, controlChecks, controlAct}
+use Rattle.model.specs.Device.{Control, ifGranted, checksOf, outcome, checks, reply, next, world, bare}
 use Rattle.laws.specs.Judge.{Passed, first-passed, holds-at}
 use Rattle.laws.specs.Chain.{chosen, other}
 use Rattle.laws.specs.Effect.{replied, granted-next, refused-next, find-bare}
