@@ -33,6 +33,27 @@ pub fn config_of(b: &[u8]) -> model::Config
     }
 }
 
+// A session of these fields.
+fn session(
+    service: u32,
+    algo: u32,
+    direction: u32,
+    keylen: u32,
+    result: u32,
+    aad: u32,
+) -> model::Session
+    ensures { λ x. ⌜ x ≡ record { service = service; algo = algo; direction = direction; keylen = keylen; result = result; aad = aad } ⌝ }
+{
+    model::Session {
+        service,
+        algo,
+        direction,
+        keylen,
+        result,
+        aad,
+    }
+}
+
 // The session that a create's fixed part asks for, by its service.
 pub fn asked(r: &[u8]) -> model::Session
     ensures { λ x. ⌜ x ≡ asked (now (r .entry)) ⌝ }
@@ -42,43 +63,15 @@ pub fn asked(r: &[u8]) -> model::Session
     let second = wire::le32(r, 20);
     let third = wire::le32(r, 24);
     if service == 0 {
-        return model::Session {
-            service: 0,
-            algo,
-            direction: third,
-            keylen: second,
-            result: 0,
-            aad: 0,
-        };
+        return session(0, algo, third, second, 0, 0);
     }
     if service == 1 {
-        return model::Session {
-            service: 1,
-            algo,
-            direction: 0,
-            keylen: 0,
-            result: second,
-            aad: 0,
-        };
+        return session(1, algo, 0, 0, second, 0);
     }
     if service == 2 {
-        return model::Session {
-            service: 2,
-            algo,
-            direction: 0,
-            keylen: third,
-            result: second,
-            aad: 0,
-        };
+        return session(2, algo, 0, third, second, 0);
     }
-    model::Session {
-        service: 3,
-        algo,
-        direction: wire::le32(r, 32),
-        keylen: second,
-        result: third,
-        aad: wire::le32(r, 28),
-    }
+    session(3, algo, wire::le32(r, 32), second, third, wire::le32(r, 28))
 }
 
 // A cipher's op_type is 1. It stands 64 bytes from the start of a create and of a data request.

@@ -9,25 +9,28 @@ use Rattle.request.proofs.asked.Tie as tie
 returns : tie.Need-returns
 unfolding asked
 returns c =
-    let op = c .before .before .before .before .le32 in
-    rw (← op .ensures, eq-eqb (op .result / 256) 0 (c .if1 .taken)) cc
+    let tests = c .before in
+    let op = tests .before .before .before .before .le32 in
+    rw (← op .ensures, eq-eqb (op .result / 256) 0 (tests .if1 .taken)) cc
 
 returns-2 : tie.Need-returns-2
 unfolding asked
 returns-2 c =
-    let op = c .before .before .before .before .before .le32 in
-    rw (← op .ensures, ne-eqb (op .result / 256) 0 (c .before .if1 .left), eq-eqb (op .result / 256) 1 (c .if2 .taken)) cc
+    let tests = c .before in
+    let op = tests .before .before .before .before .before .le32 in
+    rw (← op .ensures, ne-eqb (op .result / 256) 0 (tests .before .if1 .left), eq-eqb (op .result / 256) 1 (tests .if2 .taken)) cc
 
 returns-3 : tie.Need-returns-3
 unfolding asked
 returns-3 c =
-    let op = c .before .before .before .before .before .before .le32 in
-    rw (← op .ensures, ne-eqb (op .result / 256) 0 (c .before .before .if1 .left), ne-eqb (op .result / 256) 1 (c .before .if2 .left), eq-eqb (op .result / 256) 2 (c .if3 .taken)) cc
+    let tests = c .before in
+    let op = tests .before .before .before .before .before .before .le32 in
+    rw (← op .ensures, ne-eqb (op .result / 256) 0 (tests .before .before .if1 .left), ne-eqb (op .result / 256) 1 (tests .before .if2 .left), eq-eqb (op .result / 256) 2 (tests .if3 .taken)) cc
 
 returns-4 : tie.Need-returns-4
 unfolding asked
 returns-4 c =
-    let tests = c .before .before in
+    let tests = c .before .before .before in
     let op = tests .before .before .before .before .before .before .le32 in
     rw (← op .ensures, ne-eqb (op .result / 256) 0 (tests .before .before .if1 .left), ne-eqb (op .result / 256) 1 (tests .before .if2 .left), ne-eqb (op .result / 256) 2 (tests .if3 .left)) cc
 
@@ -39,9 +42,13 @@ asked-spec =
     (λ c κs. search needs)
     (λ c κs. search needs)
     (λ c κs. search needs)
+    (λ c κs. search needs)
     returns
+    (λ c κs. search needs)
     returns-2
+    (λ c κs. search needs)
     returns-3
+    (λ c κs. search needs)
     (λ c κs. search needs)
     (λ c κs. search needs)
     returns-4)
