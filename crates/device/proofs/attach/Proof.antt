@@ -5,10 +5,18 @@ use Rattle.device.proofs.attach.Statement.{statement}
 use Rattle.device.proofs.attach.Tie as tie
 
 returns : tie.Need-returns
-returns c = attach-refused _ _ _ _ _ (c .before .attach-answer .ensures) (c .if1 .taken)
+returns c =
+    let refused = c .if1 .taken in
+    let at = c .before in let answer = at .attach-answer .ensures in
+    attach-refused _ _ _ _ _ answer refused
 
 returns-2 : tie.Need-returns-2
-returns-2 c = attach-done _ _ _ _ _ (c .before .before .before .before .before .before .attach-answer .ensures) (c .before .before .before .before .before .if1 .left) _ (c .attached .ensures) _ (c .before .before .before .clear-guest .ensures)
+returns-2 c =
+    let table = c .attached .ensures in
+    let at = c .before .before .before in let cleared = at .clear-guest .ensures in
+    let at = at .before .before in let granted = at .if1 .left in
+    let at = at .before in let answer = at .attach-answer .ensures in
+    attach-done _ _ _ _ _ answer granted _ table _ cleared
 
 pub attach-spec : {M : Type 1} → statement M
 attach-spec =

@@ -5,10 +5,18 @@ use Rattle.device.proofs.control.Statement.{statement}
 use Rattle.device.proofs.control.Tie as tie
 
 returns : tie.Need-returns
-returns c = control-created _ _ _ _ _ _ _ _ _ _ (c .before .before .before .before .before .before .before .before .le32 .ensures) (c .before .before .before .before .before .before .before .if1 .taken) (c .before .before .before .before .create .ensures)
+returns c =
+    let at = c .before .before .before .before in let done = at .create .ensures in
+    let at = at .before .before .before in let kind = at .if1 .taken in
+    let at = at .before in let opcode = at .le32 .ensures in
+    control-created _ _ _ _ _ _ _ _ _ _ opcode kind done
 
 returns-2 : tie.Need-returns-2
-returns-2 c = control-destroyed _ _ _ _ _ _ _ _ _ _ (c .before .before .before .before .before .before .before .before .le32 .ensures) (c .before .before .before .before .before .before .before .if1 .left) (c .before .before .before .before .destroy .ensures)
+returns-2 c =
+    let at = c .before .before .before .before in let done = at .destroy .ensures in
+    let at = at .before .before .before in let kind = at .if1 .left in
+    let at = at .before in let opcode = at .le32 .ensures in
+    control-destroyed _ _ _ _ _ _ _ _ _ _ opcode kind done
 
 pub control-spec : {M : Type 1} → statement M
 control-spec =

@@ -5,12 +5,20 @@ use Rattle.device.proofs.destroy.Statement.{statement}
 use Rattle.device.proofs.destroy.Tie as tie
 
 returns : tie.Need-returns
-returns c = destroy-refused _ _ _ _ _ _ _ (c .before .before .before .before .before .destroy-choice .ensures .0) (c .before .before .before .put-control .ensures) (c .if1 .taken)
+returns c =
+    let refused = c .if1 .taken in
+    let at = c .before .before .before in let written = at .put-control .ensures in
+    let at = at .before .before in let answer = at .destroy-choice .ensures .0 in
+    destroy-refused _ _ _ _ _ _ _ answer written refused
 
 returns-2 : tie.Need-returns-2
 returns-2 c =
-    let (answer, (at, alive)) = c .before .before .before .before .before .before .before .before .before .before .before .destroy-choice .ensures in
-    destroy-done _ _ _ _ _ _ _ answer (c .before .before .before .before .before .before .before .before .before .put-control .ensures) _ at (c .before .before .before .before .before .before .if1 .left) alive _ (c .before .before .before .clear-area .ensures) _ (c .without-slot .ensures)
+    let table = c .without-slot .ensures in
+    let at = c .before .before .before in let cleared = at .clear-area .ensures in
+    let at = at .before .before .before in let granted = at .if1 .left in
+    let at = at .before .before .before in let written = at .put-control .ensures in
+    let at = at .before .before in let (answer, (place, alive)) = at .destroy-choice .ensures in
+    destroy-done _ _ _ _ _ _ _ answer written _ place granted alive _ cleared _ table
 
 pub destroy-spec : {M : Type 1} → statement M
 destroy-spec =

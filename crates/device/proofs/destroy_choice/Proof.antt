@@ -6,13 +6,23 @@ use Rattle.device.proofs.destroy_choice.Tie as tie
 
 returns : tie.Need-returns
 returns c =
-    let (at, (alive, session)) = c .before .before .lookup .ensures in
-    destroy-stop _ _ _ (c .before .before .before .before .before .args .room) (c .before .before .before .before .before .args .store) _ (c .before .opening-answer .ensures) _ _ _ (c .before .before .before .le64 .ensures) at alive session (c .if1 .taken)
+    let refused = c .if1 .taken in
+    let at = c .before in let answer = at .opening-answer .ensures in
+    let at = at .before in let (place, (alive, session)) = at .lookup .ensures in
+    let at = at .before in let number = at .le64 .ensures in
+    let at = at .before .before in let input = at .args in
+    destroy-stop _ _ _ (input .room) (input .store) _ answer _ _ _ number place alive session refused
 
 returns-2 : tie.Need-returns-2
 returns-2 c =
-    let (at, (alive, session)) = c .before .before .before .before .before .lookup .ensures in
-    destroy-end _ _ _ (c .before .before .before .before .before .before .before .before .args .room) (c .before .before .before .before .before .before .before .before .args .store) _ (c .before .before .before .before .opening-answer .ensures) _ _ _ (c .before .before .before .before .before .before .le64 .ensures) at alive session _ _ (c .before .before .le32 .ensures) (c .before .before .before .if1 .left) (c .destroy-answer .ensures)
+    let end = c .destroy-answer .ensures in
+    let at = c .before .before in let opcode = at .le32 .ensures in
+    let at = at .before in let granted = at .if1 .left in
+    let at = at .before in let answer = at .opening-answer .ensures in
+    let at = at .before in let (place, (alive, session)) = at .lookup .ensures in
+    let at = at .before in let number = at .le64 .ensures in
+    let at = at .before .before in let input = at .args in
+    destroy-end _ _ _ (input .room) (input .store) _ answer _ _ _ number place alive session _ _ opcode granted end
 
 pub destroy-choice-spec : {M : Type 1} → statement M
 destroy-choice-spec =

@@ -6,8 +6,11 @@ use Rattle.device.proofs.fetch.Tie as tie
 
 returns : tie.Need-returns
 returns c =
-    let (at, (alive, session)) = c .before .before .before .lookup .ensures in
-    fetched _ _ _ (c .before .before .before .before .args .size) _ _ _ _ (c .before .before .is-here .ensures) at alive session (c .key-answer .ensures)
+    let answer = c .key-answer .ensures in
+    let at = c .before .before in let here = at .is-here .ensures in
+    let at = at .before in let (place, (alive, session)) = at .lookup .ensures in
+    let at = at .before in let input = at .args in
+    fetched _ _ _ (input .size) _ _ _ _ here place alive session answer
 
 pub fetch-spec : {M : Type 1} → statement M
 fetch-spec =

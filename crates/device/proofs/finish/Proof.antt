@@ -5,10 +5,20 @@ use Rattle.device.proofs.finish.Statement.{statement}
 use Rattle.device.proofs.finish.Tie as tie
 
 returns : tie.Need-returns
-returns c = finish-refused _ _ _ _ _ _ _ (c .before .before .is-here .ensures) (c .before .finish-answer .ensures) (c .if1 .taken)
+returns c =
+    let refused = c .if1 .taken in
+    let at = c .before in let answer = at .finish-answer .ensures in
+    let at = at .before in let here = at .is-here .ensures in
+    finish-refused _ _ _ _ _ _ _ here answer refused
 
 returns-2 : tie.Need-returns-2
-returns-2 c = finish-done _ _ _ _ _ _ _ (c .before .before .before .before .before .before .before .is-here .ensures) (c .before .before .before .before .before .before .finish-answer .ensures) (c .before .before .before .before .before .if1 .left) _ _ (c .before .before .before .before .status-of .ensures) (c .before .before .put-status .ensures)
+returns-2 c =
+    let at = c .before .before in let written = at .put-status .ensures in
+    let at = at .before .before in let status = at .status-of .ensures in
+    let at = at .before in let granted = at .if1 .left in
+    let at = at .before in let answer = at .finish-answer .ensures in
+    let at = at .before in let here = at .is-here .ensures in
+    finish-done _ _ _ _ _ _ _ here answer granted _ _ status written
 
 pub finish-spec : {M : Type 1} → statement M
 finish-spec =

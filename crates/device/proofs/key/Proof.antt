@@ -5,12 +5,17 @@ use Rattle.device.proofs.key.Statement.{statement}
 use Rattle.device.proofs.key.Tie as tie
 
 returns : tie.Need-returns
-returns c = key-refused _ _ _ _ _ (c .before .before .before .fetch .ensures .0) (c .before .if1 .taken)
+returns c =
+    let at = c .before in let refused = at .if1 .taken in
+    let at = at .before .before in let answer = at .fetch .ensures .0 in
+    key-refused _ _ _ _ _ answer refused
 
 returns-2 : tie.Need-returns-2
 returns-2 c =
-    let (answer, (at, (alive, session))) = c .before .before .before .before .fetch .ensures in
-    key-done _ _ _ _ _ answer (c .before .before .if1 .left) _ _ at alive session _ (c .key-part .ensures)
+    let key = c .key-part .ensures in
+    let at = c .before .before in let granted = at .if1 .left in
+    let at = at .before .before in let (answer, (place, (alive, session))) = at .fetch .ensures in
+    key-done _ _ _ _ _ answer granted _ _ place alive session _ key
 
 pub key-spec : {M : Type 1} → statement M
 key-spec =

@@ -5,10 +5,22 @@ use Rattle.device.proofs.set_up.Statement.{statement}
 use Rattle.device.proofs.set_up.Tie as tie
 
 returns : tie.Need-returns
-returns c = set-up-refused _ _ _ _ _ _ (c .before .before .before .before .before .config-of .ensures) (c .before .before .before .before .set-up-answer .ensures) (c .before .before .before .if1 .taken) _ (c .before .config-of2 .ensures) _ (c .fresh .ensures)
+returns c =
+    let empty = c .fresh .ensures in
+    let at = c .before in let none = at .config-of2 .ensures in
+    let at = at .before .before in let refused = at .if1 .taken in
+    let at = at .before in let answer = at .set-up-answer .ensures in
+    let at = at .before in let config = at .config-of .ensures in
+    set-up-refused _ _ _ _ _ _ config answer refused _ none _ empty
 
 returns-2 : tie.Need-returns-2
-returns-2 c = set-up-done _ _ _ _ _ _ (c .before .before .before .before .before .before .before .config-of .ensures) (c .before .before .before .before .before .before .set-up-answer .ensures) (c .before .before .before .before .before .if1 .left) _ (c .before .before .before .clear-all .ensures) _ (c .fresh2 .ensures)
+returns-2 c =
+    let table = c .fresh2 .ensures in
+    let at = c .before .before .before in let zeroed = at .clear-all .ensures in
+    let at = at .before .before in let granted = at .if1 .left in
+    let at = at .before in let answer = at .set-up-answer .ensures in
+    let at = at .before in let config = at .config-of .ensures in
+    set-up-done _ _ _ _ _ _ config answer granted _ zeroed _ table
 
 pub set-up-spec : {M : Type 1} → statement M
 set-up-spec =
