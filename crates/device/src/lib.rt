@@ -44,7 +44,7 @@ pub fn set_up(config: &[u8], reserves: [u8; 8], caps: [u8; 8], store: &mut [u8])
 {
     let k = request::config_of(config);
     let answer = request::set_up_answer(store.len(), config.len(), k, reserves, caps);
-    if answer != 0 {
+    if answer != model::OK {
         let none = request::config_of(b"");
         return Reply {
             answer,
@@ -65,7 +65,7 @@ pub fn attach(t: model::Table, guest: u8, word: u32, store: &mut [u8]) -> Reply
     ensures store { λ r. ⌜ now (store .exit) ≡ next (world t (now (store .entry))) guest (Attach word) .store ⌝ }
 {
     let answer = request::attach_answer(store.len(), guest, word);
-    if answer != 0 {
+    if answer != model::OK {
         return Reply { answer, table: t };
     }
     keystore::clear_guest(store, t, guest);
@@ -110,13 +110,13 @@ fn chance_answer(t: model::Table, guest: u8) -> u8
     ensures { λ a. ⌜ a ≡ firstFail (chance t guest) ⌝ }
 {
     let r = table::guest_at(t, guest);
-    if 4294967295 <= r.last {
-        return 1;
+    if model::LAST_NUMBER <= r.last {
+        return model::ERR;
     }
     if !table::has_room(t, guest) {
-        return 5;
+        return model::NOSPC;
     }
-    0
+    model::OK
 }
 
 // All checks of a create.
@@ -124,11 +124,11 @@ fn create_answer(t: model::Table, guest: u8, readable: &[u8], room: usize, store
     ensures { λ a. ⌜ a ≡ firstFail (creation t guest (now (readable .entry)) room store) ⌝ }
 {
     let first = opening_answer(t, guest, readable, room, store);
-    if first != 0 {
+    if first != model::OK {
         return first;
     }
     let second = form_answer(t, readable);
-    if second != 0 {
+    if second != model::OK {
         return second;
     }
     chance_answer(t, guest)
@@ -138,7 +138,7 @@ fn create_answer(t: model::Table, guest: u8, readable: &[u8], room: usize, store
 fn number_for(answer: u8, r: model::Guest) -> u64
     ensures { λ n. ⌜ n ≡ ifGranted answer (numberAfter (r .last)) 0 ⌝ }
 {
-    if answer == 0 {
+    if answer == model::OK {
         return table::next_number(r);
     }
     0
@@ -161,7 +161,7 @@ fn create(
     let r = table::guest_at(t, guest);
     let number = number_for(answer, r);
     wire::put_control(writable, number, answer);
-    if answer != 0 {
+    if answer != model::OK {
         return Reply { answer, table: t };
     }
     let x = request::asked(readable);
@@ -183,7 +183,7 @@ fn destroy_choice(t: model::Table, guest: u8, readable: &[u8], room: usize, stor
 {
     let found = table::lookup(t, guest, wire::le64(readable, 16));
     let first = opening_answer(t, guest, readable, room, store);
-    if first != 0 {
+    if first != model::OK {
         return Choice {
             answer: first,
             found,
@@ -210,7 +210,7 @@ fn destroy(
     let choice = destroy_choice(t, guest, readable, writable.len(), store.len());
     let answer = choice.answer;
     wire::put_control(writable, 0, answer);
-    if answer != 0 {
+    if answer != model::OK {
         return Reply { answer, table: t };
     }
     let found = choice.found;
@@ -249,7 +249,7 @@ fn data_answer(t: model::Table, guest: u8, readable: &[u8], room: usize) -> u8
     let flag = wire::le32(readable, 16);
     let len = readable.len();
     let first = request::operation_answer(t.config, is_here(t, guest), op, flag, len, room);
-    if first != 0 {
+    if first != model::OK {
         return first;
     }
     let found = table::lookup(t, guest, wire::le64(readable, 8));
@@ -275,7 +275,7 @@ pub fn admit(t: model::Table, guest: u8, readable: &[u8], writable: &mut [u8]) -
 {
     let answer = data_answer(t, guest, readable, writable.len());
     wire::put_data(writable, answer);
-    if answer != 0 {
+    if answer != model::OK {
         return Admission {
             answer,
             guest: 0,
@@ -304,7 +304,7 @@ fn part<'a, 'b>(
     ensures { λ r. ⌜ now r ≡ reply (bare t) guest (Part field (now (readable .entry)) (now (writable .entry))) .bytes ⌝ }
 {
     let answer = data_answer(t, guest, readable, writable.len());
-    if answer != 0 {
+    if answer != model::OK {
         return &readable[0..0];
     }
     request::part(readable, field)
@@ -361,7 +361,7 @@ pub fn key<'a>(t: model::Table, guest: u8, number: u64, store: &'a [u8]) -> &'a 
     ensures { λ r. ⌜ now r ≡ reply (world t (now (store .entry))) guest (Key number) .bytes ⌝ }
 {
     let choice = fetch(t, guest, number, store.len());
-    if choice.answer != 0 {
+    if choice.answer != model::OK {
         return &store[0..0];
     }
     let found = choice.found;
@@ -374,7 +374,7 @@ pub fn finish(t: model::Table, guest: u8, opcode: u32, verdict: u8, writable: &m
     ensures writable { λ r. ⌜ now (writable .exit) ≡ reply (bare t) guest (Finish opcode verdict (now (writable .entry))) .writable ⌝ }
 {
     let answer = request::finish_answer(is_here(t, guest), writable.len());
-    if answer != 0 {
+    if answer != model::OK {
         return answer;
     }
     let status = request::status_of(opcode, verdict);

@@ -39,7 +39,7 @@ fn put_part(store: &mut [u8], at: usize, n: usize, key: &[u8])
 fn put_keys(store: &mut [u8], slot: usize, front: &[u8], back: &[u8])
     ensures { λ _. ⌜ now (store .exit) ≡ stored (now (store .entry)) slot (keyArea (now (front .entry)) (now (back .entry))) ⌝ }
 {
-    if store.len() != 16384 {
+    if store.len() != model::STORE_SIZE {
         return;
     }
     if 128 <= slot {
@@ -54,7 +54,7 @@ fn put_keys(store: &mut [u8], slot: usize, front: &[u8], back: &[u8])
 pub fn put_key(store: &mut [u8], slot: usize, service: u32, key: &[u8])
     ensures { λ _. ⌜ now (store .exit) ≡ stored (now (store .entry)) slot (areaOf service (now (key .entry))) ⌝ }
 {
-    if service == 2 {
+    if service == model::MAC {
         put_keys(store, slot, b"", key);
         return;
     }
@@ -88,7 +88,7 @@ fn clear_owned(store: &mut [u8], i: usize, c: model::Slot, guest: u8)
 pub fn clear_guest(store: &mut [u8], t: model::Table, guest: u8)
     ensures { λ _. ⌜ now (store .exit) ≡ cleared (now (store .entry)) (wipe (owned guest) (slotsOf t) (now (store .entry))) ⌝ }
 {
-    if store.len() != 16384 {
+    if store.len() != model::STORE_SIZE {
         return;
     }
     let mut i: usize = 0;
@@ -103,7 +103,7 @@ pub fn clear_guest(store: &mut [u8], t: model::Table, guest: u8)
 fn key_start(service: u32) -> usize
     ensures { λ r. ⌜ r ≡ keyStart service ⌝ }
 {
-    if service == 2 {
+    if service == model::MAC {
         return 64;
     }
     0
@@ -113,7 +113,7 @@ fn key_start(service: u32) -> usize
 fn key_len(x: model::Session) -> usize
     ensures { λ r. ⌜ r ≡ keyLen x ⌝ }
 {
-    if x.service == 1 {
+    if x.service == model::HASH {
         return 0;
     }
     x.keylen as usize

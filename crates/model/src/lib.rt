@@ -1,4 +1,44 @@
-// The session table, by value. What is right of it stands in specs/.
+// The session table, by value, and the paper's numbers. What is right of them stands in specs/.
+
+// Paper 01's answers; those from BAD_GUEST on have no outcome bytes.
+pub const OK: u8 = 0;
+
+pub const ERR: u8 = 1;
+
+pub const BADMSG: u8 = 2;
+
+pub const NOTSUPP: u8 = 3;
+
+pub const INVSESS: u8 = 4;
+
+pub const NOSPC: u8 = 5;
+
+pub const BAD_GUEST: u8 = 16;
+
+pub const NO_OUTCOME: u8 = 17;
+
+pub const BAD_STORE: u8 = 18;
+
+pub const BAD_FEATURE: u8 = 19;
+
+pub const BAD_SHARES: u8 = 20;
+
+pub const BAD_CONFIG: u8 = 21;
+
+// The services.
+pub const CIPHER: u32 = 0;
+
+pub const HASH: u32 = 1;
+
+pub const MAC: u32 = 2;
+
+pub const AEAD: u32 = 3;
+
+// The last session number of a guest.
+pub const LAST_NUMBER: u64 = 4294967295;
+
+// The bytes of the key store.
+pub const STORE_SIZE: usize = 16384;
 
 // Document 001's virtio_crypto_config, field by field.
 pub struct Config {

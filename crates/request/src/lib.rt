@@ -62,23 +62,30 @@ pub fn asked(r: &[u8]) -> model::Session
     let algo = wire::le32(r, 16);
     let second = wire::le32(r, 20);
     let third = wire::le32(r, 24);
-    if service == 0 {
-        return session(0, algo, third, second, 0, 0);
+    if service == model::CIPHER {
+        return session(model::CIPHER, algo, third, second, 0, 0);
     }
-    if service == 1 {
-        return session(1, algo, 0, 0, second, 0);
+    if service == model::HASH {
+        return session(model::HASH, algo, 0, 0, second, 0);
     }
-    if service == 2 {
-        return session(2, algo, 0, third, second, 0);
+    if service == model::MAC {
+        return session(model::MAC, algo, 0, third, second, 0);
     }
-    session(3, algo, wire::le32(r, 32), second, third, wire::le32(r, 28))
+    session(
+        model::AEAD,
+        algo,
+        wire::le32(r, 32),
+        second,
+        third,
+        wire::le32(r, 28),
+    )
 }
 
 // A cipher's op_type is 1. It stands 64 bytes from the start of a create and of a data request.
 pub fn is_plain(r: &[u8]) -> bool
     ensures { λ b. ⌜ b ≡ plainCreate (now (r .entry)) ⌝ }
 {
-    !(wire::le32(r, 0) / 256 == 0) | (wire::le32(r, 64) == 1)
+    !(wire::le32(r, 0) / 256 == model::CIPHER) | (wire::le32(r, 64) == 1)
 }
 
 // The lengths of a data request's fixed part, by its service.
@@ -89,7 +96,7 @@ pub fn lengths(r: &[u8]) -> model::Lengths
     let first = wire::le32(r, 24);
     let second = wire::le32(r, 28);
     let third = wire::le32(r, 32);
-    if service == 0 {
+    if service == model::CIPHER {
         return model::Lengths {
             iv: first,
             source: second,
@@ -98,7 +105,7 @@ pub fn lengths(r: &[u8]) -> model::Lengths
             result: 0,
         };
     }
-    if service == 3 {
+    if service == model::AEAD {
         let written = wire::le32(r, 36);
         let result = wire::le32(r, 40);
         return model::Lengths {
@@ -152,48 +159,48 @@ pub fn set_up_answer(
 ) -> u8
     ensures { λ r. ⌜ r ≡ firstFail (setUpOrder store len k reserves caps) ⌝ }
 {
-    if store != 16384 {
-        return 18;
+    if store != model::STORE_SIZE {
+        return model::BAD_STORE;
     }
     if !takes(len, k) {
-        return 21;
+        return model::BAD_CONFIG;
     }
     if !rules::shares_ok(reserves, caps) {
-        return 20;
+        return model::BAD_SHARES;
     }
-    0
+    model::OK
 }
 
 // Attach: the key store's length, the guest, the feature word.
 pub fn attach_answer(store: usize, guest: u8, word: u32) -> u8
     ensures { λ r. ⌜ r ≡ firstFail (attachChecks store guest word) ⌝ }
 {
-    if store != 16384 {
-        return 18;
+    if store != model::STORE_SIZE {
+        return model::BAD_STORE;
     }
     if 8 <= guest {
-        return 16;
+        return model::BAD_GUEST;
     }
     if word != 1 {
-        return 19;
+        return model::BAD_FEATURE;
     }
-    0
+    model::OK
 }
 
 // Step 1 of a control request.
 fn place_answer(store: usize, here: bool, room: usize) -> u8
     ensures { λ r. ⌜ r ≡ firstFail (placeChecks store here room) ⌝ }
 {
-    if store != 16384 {
-        return 18;
+    if store != model::STORE_SIZE {
+        return model::BAD_STORE;
     }
     if !here {
-        return 16;
+        return model::BAD_GUEST;
     }
     if !((room == 16) | (room == 1)) {
-        return 17;
+        return model::NO_OUTCOME;
     }
-    0
+    model::OK
 }
 
 // A known opcode of a service that is offered.
@@ -226,13 +233,13 @@ pub fn create_part(service: u32) -> usize
     ensures { λ r. ⌜ r ≡ createPart service ⌝ }
     ensures bounded { λ r. ⌜ r ≤ 56 ⌝ }
 {
-    if service == 0 {
+    if service == model::CIPHER {
         return 56;
     }
-    if service == 1 {
+    if service == model::HASH {
         return 8;
     }
-    if service == 2 {
+    if service == model::MAC {
         return 16;
     }
     24
@@ -253,18 +260,18 @@ fn head_answer(k: model::Config, op: u32, len: usize, room: usize) -> u8
     ensures { λ r. ⌜ r ≡ firstFail (headChecks k op len room) ⌝ }
 {
     if len < 16 {
-        return 1;
+        return model::ERR;
     }
     if !opcode_ok(k, op) {
-        return 3;
+        return model::NOTSUPP;
     }
     if !room_ok(op, room) {
-        return 1;
+        return model::ERR;
     }
     if !holds_part(op, len) {
-        return 1;
+        return model::ERR;
     }
-    0
+    model::OK
 }
 
 // Steps 1 to 3.
@@ -279,7 +286,7 @@ pub fn control_answer(
     ensures { λ r. ⌜ r ≡ firstFail (placeChecks store here room ++ headChecks k op len room) ⌝ }
 {
     let answer = place_answer(store, here, room);
-    if answer != 0 {
+    if answer != model::OK {
         return answer;
     }
     head_answer(k, op, len, room)
@@ -297,24 +304,24 @@ pub fn session_answer(k: model::Config, plain: bool, head: u32, x: model::Sessio
     ensures { λ r. ⌜ r ≡ firstFail (sessionChecks k plain head x len) ⌝ }
 {
     if !plain {
-        return 3;
+        return model::NOTSUPP;
     }
     if !rules::is_offered(k, x.service, x.algo) {
-        return 3;
+        return model::NOTSUPP;
     }
     if head != x.algo {
-        return 1;
+        return model::ERR;
     }
     if !rules::direction_ok(x) {
-        return 1;
+        return model::ERR;
     }
     if !rules::lengths_ok(k, x) {
-        return 1;
+        return model::ERR;
     }
     if !is_whole(x, len) {
-        return 1;
+        return model::ERR;
     }
-    0
+    model::OK
 }
 
 // Step 5, of a destroy: x is the session that it names, if that is live.
@@ -322,12 +329,12 @@ pub fn destroy_answer(alive: bool, x: model::Session, op: u32, len: usize) -> u8
     ensures { λ r. ⌜ r ≡ firstFail (endChecks alive x op len) ⌝ }
 {
     if len != 24 {
-        return 1;
+        return model::ERR;
     }
     if !(alive & (x.service == op / 256)) {
-        return 1;
+        return model::ERR;
     }
-    0
+    model::OK
 }
 
 // A known operation of a service that is offered.
@@ -350,24 +357,24 @@ pub fn operation_answer(
     ensures { λ r. ⌜ r ≡ firstFail (operationChecks k here op flag len room) ⌝ }
 {
     if !here {
-        return 16;
+        return model::BAD_GUEST;
     }
     if room < 1 {
-        return 17;
+        return model::NO_OUTCOME;
     }
     if len < 24 {
-        return 1;
+        return model::ERR;
     }
     if !operation_ok(k, op) {
-        return 3;
+        return model::NOTSUPP;
     }
     if flag == 0 {
-        return 3;
+        return model::NOTSUPP;
     }
     if flag != 1 {
-        return 1;
+        return model::ERR;
     }
-    0
+    model::OK
 }
 
 // The session is live, of the operation's service and, for cipher and AEAD, of its direction.
@@ -377,7 +384,7 @@ fn suits_job(op: u32, alive: bool, x: model::Session) -> bool
     let service = op / 256;
     alive
         & (x.service == service)
-        & (!((service == 0) | (service == 3)) | (x.direction == op % 256 + 1))
+        & (!((service == model::CIPHER) | (service == model::AEAD)) | (x.direction == op % 256 + 1))
 }
 
 // A data request's fixed part.
@@ -385,10 +392,10 @@ fn data_part(service: u32) -> usize
     ensures { λ r. ⌜ r ≡ dataPart service ⌝ }
     ensures bounded { λ r. ⌜ r ≤ 48 ⌝ }
 {
-    if service == 0 {
+    if service == model::CIPHER {
         return 48;
     }
-    if (service == 1) | (service == 2) {
+    if (service == model::HASH) | (service == model::MAC) {
         return 8;
     }
     24
@@ -431,8 +438,8 @@ fn fits_session(x: model::Session, n: model::Lengths) -> bool
     rules::iv_ok(x.service, x.algo, n.iv)
         & rules::source_ok(x.service, x.algo, n.source)
         & (n.written as u64 == rules::written_len(x.service, n.source, n.result))
-        & (!(x.service == 3) | (n.aad == x.aad))
-        & ((x.service == 0) | (n.result == x.result))
+        & (!(x.service == model::AEAD) | (n.aad == x.aad))
+        & ((x.service == model::CIPHER) | (n.result == x.result))
 }
 
 // Data requests: the checks on the session x that is named, if that is live, and on the lengths.
@@ -449,40 +456,40 @@ pub fn job_answer(
     ensures { λ r. ⌜ r ≡ firstFail (jobChecks k alive x op plain n len room) ⌝ }
 {
     if !suits_job(op, alive, x) {
-        return 4;
+        return model::INVSESS;
     }
     if !reaches(op, len) {
-        return 1;
+        return model::ERR;
     }
     if !plain {
-        return 3;
+        return model::NOTSUPP;
     }
     if !sum_ok(k.size, n) {
-        return 1;
+        return model::ERR;
     }
     if !is_exact(op, n, len, room) {
-        return 1;
+        return model::ERR;
     }
     if !fits_session(x, n) {
-        return 1;
+        return model::ERR;
     }
-    0
+    model::OK
 }
 
 // Key fetch.
 pub fn key_answer(store: usize, here: bool, alive: bool) -> u8
     ensures { λ r. ⌜ r ≡ firstFail (keyChecks store here alive) ⌝ }
 {
-    if store != 16384 {
-        return 18;
+    if store != model::STORE_SIZE {
+        return model::BAD_STORE;
     }
     if !here {
-        return 16;
+        return model::BAD_GUEST;
     }
     if !alive {
-        return 4;
+        return model::INVSESS;
     }
-    0
+    model::OK
 }
 
 // Finish.
@@ -490,20 +497,20 @@ pub fn finish_answer(here: bool, room: usize) -> u8
     ensures { λ r. ⌜ r ≡ firstFail (finishChecks here room) ⌝ }
 {
     if !here {
-        return 16;
+        return model::BAD_GUEST;
     }
     if room < 1 {
-        return 17;
+        return model::NO_OUTCOME;
     }
-    0
+    model::OK
 }
 
 // The byte that finish writes: the verdict, where it can stand.
 pub fn status_of(opcode: u32, verdict: u8) -> u8
     ensures { λ r. ⌜ r ≡ status opcode verdict ⌝ }
 {
-    if (verdict <= 1) | (verdict == 2) & (opcode == 769) {
+    if (verdict <= model::ERR) | (verdict == model::BADMSG) & (opcode == 769) {
         return verdict;
     }
-    1
+    model::ERR
 }

@@ -119,20 +119,20 @@ fn is_aead(algo: u32) -> bool
 fn is_known(service: u32, algo: u32) -> bool
     ensures { λ r. ⌜ r ≡ known service algo ⌝ }
 {
-    (service == 0) & is_cipher(algo)
-        | (service == 1) & is_hash(algo)
-        | (service == 2) & is_mac(algo)
-        | (service == 3) & is_aead(algo)
+    (service == model::CIPHER) & is_cipher(algo)
+        | (service == model::HASH) & is_hash(algo)
+        | (service == model::MAC) & is_mac(algo)
+        | (service == model::AEAD) & is_aead(algo)
 }
 
 // A key of n bytes; a hash has none to look at.
 fn key_ok(service: u32, algo: u32, n: u32) -> bool
     ensures { λ r. ⌜ r ≡ keyOk service algo n ⌝ }
 {
-    (service == 0) & cipher_key(algo, n)
-        | (service == 1)
-        | (service == 2) & mac_key(algo, n)
-        | (service == 3) & aead_key(algo, n)
+    (service == model::CIPHER) & cipher_key(algo, n)
+        | (service == model::HASH)
+        | (service == model::MAC) & mac_key(algo, n)
+        | (service == model::AEAD) & aead_key(algo, n)
 }
 
 // A hash or MAC result, or an AEAD tag, of n bytes; a cipher has none to look at.
@@ -140,37 +140,40 @@ fn result_ok(service: u32, algo: u32, n: u32) -> bool
     ensures { λ r. ⌜ r ≡ resultOk service algo n ⌝ }
 {
     let hashed = hash_result(algo, n);
-    (service == 0)
-        | (service == 1) & hashed
-        | (service == 2) & (hashed | cmac_result(algo, n))
-        | (service == 3) & aead_tag(algo, n)
+    (service == model::CIPHER)
+        | (service == model::HASH) & hashed
+        | (service == model::MAC) & (hashed | cmac_result(algo, n))
+        | (service == model::AEAD) & aead_tag(algo, n)
 }
 
 // An IV of n bytes; only cipher and AEAD have a rule.
 pub fn iv_ok(service: u32, algo: u32, n: u32) -> bool
     ensures { λ r. ⌜ r ≡ ivOk service algo n ⌝ }
 {
-    (service == 0) & cipher_iv(algo, n)
-        | (service == 1)
-        | (service == 2)
-        | (service == 3) & aead_iv(algo, n)
+    (service == model::CIPHER) & cipher_iv(algo, n)
+        | (service == model::HASH)
+        | (service == model::MAC)
+        | (service == model::AEAD) & aead_iv(algo, n)
 }
 
 // A source of n bytes; only a cipher has a rule.
 pub fn source_ok(service: u32, algo: u32, n: u32) -> bool
     ensures { λ r. ⌜ r ≡ sourceOk service algo n ⌝ }
 {
-    (service == 0) & cipher_source(algo, n) | (service == 1) | (service == 2) | (service == 3)
+    (service == model::CIPHER) & cipher_source(algo, n)
+        | (service == model::HASH)
+        | (service == model::MAC)
+        | (service == model::AEAD)
 }
 
 // The bytes written before the status; a sum of two lengths, so 64 bits.
 pub fn written_len(service: u32, source: u32, result: u32) -> u64
     ensures { λ r. ⌜ r ≡ writtenLen service source result ⌝ }
 {
-    if service == 0 {
+    if service == model::CIPHER {
         return source as u64;
     }
-    if service == 3 {
+    if service == model::AEAD {
         return source as u64 + result as u64;
     }
     result as u64
@@ -190,13 +193,13 @@ pub fn has_bit(mask: u32, n: u32) -> bool
 fn mask_of(k: model::Config, service: u32) -> u32
     ensures { λ r. ⌜ r ≡ maskOf k service ⌝ }
 {
-    if service == 0 {
+    if service == model::CIPHER {
         return k.ciphers;
     }
-    if service == 1 {
+    if service == model::HASH {
         return k.hashes;
     }
-    if service == 2 {
+    if service == model::MAC {
         return k.macs;
     }
     k.aeads
@@ -213,14 +216,16 @@ pub fn is_offered(k: model::Config, service: u32, algo: u32) -> bool
 pub fn direction_ok(x: model::Session) -> bool
     ensures { λ r. ⌜ r ≡ directionOk x ⌝ }
 {
-    !((x.service == 0) | (x.service == 3)) | (x.direction == 1) | (x.direction == 2)
+    !((x.service == model::CIPHER) | (x.service == model::AEAD))
+        | (x.direction == 1)
+        | (x.direction == 2)
 }
 
 // The configuration's limit on a key of this service.
 fn key_limit(k: model::Config, service: u32) -> u32
     ensures { λ r. ⌜ r ≡ keyLimit k service ⌝ }
 {
-    if service == 2 {
+    if service == model::MAC {
         return k.authkey;
     }
     k.cipherkey
@@ -231,7 +236,7 @@ pub fn lengths_ok(k: model::Config, x: model::Session) -> bool
     ensures { λ r. ⌜ r ≡ lengthsOk k x ⌝ }
 {
     key_ok(x.service, x.algo, x.keylen)
-        & ((x.service == 1) | (x.keylen <= key_limit(k, x.service)))
+        & ((x.service == model::HASH) | (x.keylen <= key_limit(k, x.service)))
         & result_ok(x.service, x.algo, x.result)
 }
 

@@ -252,7 +252,7 @@ pub fn has_room(t: model::Table, guest: u8) -> bool
 pub fn next_number(r: model::Guest) -> u64
     ensures { λ n. ⌜ n ≡ numberAfter (r .last) ⌝ }
 {
-    if 4294967295 <= r.last {
+    if model::LAST_NUMBER <= r.last {
         return 0;
     }
     r.last + 1

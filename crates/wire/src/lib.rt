@@ -115,7 +115,7 @@ fn put_outcome(writable: &mut [u8], id: u64, status: u8)
 pub fn put_control(writable: &mut [u8], id: u64, answer: u8)
     ensures { λ _. ⌜ now (writable .exit) ≡ controlBytes (now (writable .entry)) id answer ⌝ }
 {
-    if answer < 16 {
+    if answer < model::BAD_GUEST {
         put_outcome(writable, id, answer);
     }
 }
@@ -135,7 +135,7 @@ pub fn put_status(writable: &mut [u8], status: u8)
 pub fn put_data(writable: &mut [u8], answer: u8)
     ensures { λ _. ⌜ now (writable .exit) ≡ dataBytes (now (writable .entry)) answer ⌝ }
 {
-    if (answer < 16) & (answer != 0) {
+    if (answer < model::BAD_GUEST) & (answer != model::OK) {
         put_status(writable, answer);
     }
 }
