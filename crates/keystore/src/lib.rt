@@ -79,7 +79,7 @@ pub fn clear_all(store: &mut [u8])
 fn clear_owned(store: &mut [u8], i: usize, c: model::Slot, guest: u8)
     ensures { λ _. ⌜ now (store .exit) ≡ cond (owned guest (placeOf c)) (stored (now (store .entry)) i zeros) (now (store .entry)) ⌝ }
 {
-    if c.held & (c.owner == guest) {
+    if table::owned_by(c, guest) {
         clear_area(store, i);
     }
 }

@@ -94,7 +94,7 @@ pub fn is_present(guest: u8, r: model::Guest) -> bool
 }
 
 // The slot names the guest as owner.
-fn owned_by(c: model::Slot, guest: u8) -> bool
+pub fn owned_by(c: model::Slot, guest: u8) -> bool
     ensures { λ r. ⌜ r ≡ owned guest (placeOf c) ⌝ }
 {
     c.held & (c.owner == guest)
