@@ -20,35 +20,35 @@ use Rattle.model.specs.Data.{lengths, operationChecks, jobChecks, keyChecks}
 use Rattle.model.specs.Device.{bare}
 use Rattle.laws.specs.Chain.{all-hold, fails, goes-on}
 use Rattle.laws.specs.Stages.{stop, go-on}
-use Rattle.device.specs.Stages.{opening, form, chance, creation, destruction, admission, fetching}
+use Rattle.device.specs.Stages.{opening, form, granting, creation, destruction, admission, fetching}
 
 -- ---- the session number and the room; r is the guest's record
 
 module _ (t : Table) (g : ℕ) (r : Guest) (e : r ≡ guestAt t g) where
-  pub chance-number : lastNumber ≤ r .last → err ≡ firstFail (chance t g)
-  chance-number h = rw (← e) (fails (ltb (r .last) lastNumber) err _ (le-ltb (r .last) lastNumber h))
+  pub grant-number : lastNumber ≤ r .last → err ≡ firstFail (granting t g)
+  grant-number h = rw (← e) (fails (ltb (r .last) lastNumber) err _ (le-ltb (r .last) lastNumber h))
 
   module _ (b : Bool) (q : b ≡ not (full t g)) (h : r .last < lastNumber) where
-    go : (m : ℕ) → m ≡ firstFail ((not (full t g), nospc) ∷ []) → m ≡ firstFail (chance t g)
+    go : (m : ℕ) → m ≡ firstFail ((not (full t g), nospc) ∷ []) → m ≡ firstFail (granting t g)
     go m f = rw (← e) (goes-on (ltb (r .last) lastNumber) m err _ (lt-ltb (r .last) lastNumber h) f)
 
-    pub chance-room : not b ≡ true → nospc ≡ firstFail (chance t g)
-    chance-room n = go nospc (fails (not (full t g)) nospc [] (sym q ∙ not-true b n))
+    pub grant-room : not b ≡ true → nospc ≡ firstFail (granting t g)
+    grant-room n = go nospc (fails (not (full t g)) nospc [] (sym q ∙ not-true b n))
 
-    pub chance-both : not b ≡ false → 0 ≡ firstFail (chance t g)
-    chance-both n = go 0 (goes-on (not (full t g)) 0 nospc [] (sym q ∙ not-false b n) all-hold)
+    pub grant-both : not b ≡ false → 0 ≡ firstFail (granting t g)
+    grant-both n = go 0 (goes-on (not (full t g)) 0 nospc [] (sym q ∙ not-false b n) all-hold)
 
 -- ---- control requests; a is the answer of steps 1 to 3
 
 module _ (t : Table) (g : ℕ) (r : List ℕ) (room store a : ℕ) (e : a ≡ firstFail (opening t g r room store)) where
   pub create-stop : (a ≡ 0 → ⊥) → a ≡ firstFail (creation t g r room store)
-  create-stop = stop (opening t g r room store) (form t r ++ chance t g) a e
+  create-stop = stop (opening t g r room store) (form t r ++ granting t g) a e
 
   pub create-form : (b : ℕ) → a ≡ 0 → b ≡ firstFail (form t r) → (b ≡ 0 → ⊥) → b ≡ firstFail (creation t g r room store)
-  create-form b z f d = go-on (opening t g r room store) (form t r ++ chance t g) a b refl e z (stop (form t r) (chance t g) b f d)
+  create-form b z f d = go-on (opening t g r room store) (form t r ++ granting t g) a b refl e z (stop (form t r) (granting t g) b f d)
 
-  pub create-chance : (b m : ℕ) → a ≡ 0 → b ≡ firstFail (form t r) → b ≡ 0 → m ≡ firstFail (chance t g) → m ≡ firstFail (creation t g r room store)
-  create-chance b m z f y q = go-on (opening t g r room store) (form t r ++ chance t g) a m refl e z (go-on (form t r) (chance t g) b m refl f y q)
+  pub create-grant : (b m : ℕ) → a ≡ 0 → b ≡ firstFail (form t r) → b ≡ 0 → m ≡ firstFail (granting t g) → m ≡ firstFail (creation t g r room store)
+  create-grant b m z f y q = go-on (opening t g r room store) (form t r ++ granting t g) a m refl e z (go-on (form t r) (granting t g) b m refl f y q)
 
   -- `at` and x are the place and the session that the search gave for number n
   module _ (at n : ℕ) (x : Session) (hn : n ≡ le64 r 16) (hp : at ≡ liveAt t g n) (ha : ltb at 128 ≡ isLive (find (bare t) g n))

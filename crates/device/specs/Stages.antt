@@ -26,8 +26,8 @@ opening t g r room store = placeChecks store (present g (guestAt t g)) room ++ h
 abbrev pub form : Table → List ℕ → List Check
 form t r = sessionChecks (t .config) (plainCreate r) (le32 r 4) (asked r) (length r)
 
-abbrev pub chance : Table → ℕ → List Check
-chance t g = (numbersLeft (view (bare t) g), err) ∷ (not (full t g), nospc) ∷ []
+abbrev pub granting : Table → ℕ → List Check
+granting t g = (numbersLeft (view (bare t) g), err) ∷ (not (full t g), nospc) ∷ []
 
 -- a destroy's
 abbrev pub destruction : Table → ℕ → List ℕ → ℕ → ℕ → List Check

@@ -14,7 +14,7 @@ ghost use Rattle.model.specs.Setup.{setUpAnswer, setUp};
 ghost use Rattle.model.specs.Control.{newEntry};
 ghost use Rattle.model.specs.Device.{Attach, Control, Admit, Part, KeyAnswer, Key, Finish, ifGranted, reply, next, world, bare};
 ghost use Rattle.table.specs.Narrow.{numberAfter};
-ghost use Rattle.device.specs.Stages.{opening, form, chance, creation, destruction, fetching, admission};
+ghost use Rattle.device.specs.Stages.{opening, form, granting, creation, destruction, fetching, admission};
 
 // An answer, and the table afterwards.
 pub struct Reply {
@@ -106,8 +106,8 @@ fn form_answer(t: model::Table, readable: &[u8]) -> u8
 }
 
 // The session number and the room for a create.
-fn chance_answer(t: model::Table, guest: u8) -> u8
-    ensures { λ a. ⌜ a ≡ firstFail (chance t guest) ⌝ }
+fn grant_answer(t: model::Table, guest: u8) -> u8
+    ensures { λ a. ⌜ a ≡ firstFail (granting t guest) ⌝ }
 {
     let r = table::guest_at(t, guest);
     if model::LAST_NUMBER <= r.last {
@@ -131,7 +131,7 @@ fn create_answer(t: model::Table, guest: u8, readable: &[u8], room: usize, store
     if second != model::OK {
         return second;
     }
-    chance_answer(t, guest)
+    grant_answer(t, guest)
 }
 
 // The number of the guest's next session where a create is granted, else 0.

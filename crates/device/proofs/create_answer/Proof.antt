@@ -1,6 +1,6 @@
 -- `device::create_answer` meets its contract: one law for each way out.
 use borrow.Author.Needs.{needs}
-use Rattle.device.specs.Answers.{create-stop, create-form, create-chance}
+use Rattle.device.specs.Answers.{create-stop, create-form, create-grant}
 use Rattle.device.proofs.create_answer.Statement.{statement}
 use Rattle.device.proofs.create_answer.Tie as tie
 
@@ -13,4 +13,4 @@ create-answer-spec =
     (λ c κs. search needs)
     (λ c. search create-form)
     (λ c κs. search needs)
-    (λ c. search create-chance))
+    (λ c. search create-grant))
