@@ -16,7 +16,8 @@ returns-2 c =
     let at = c .before .before .before in let cleared = at .clear-guest .ensures in
     let at = at .before .before in let granted = at .if1 .left in
     let at = at .before in let answer = at .attach-answer .ensures in
-    attach-done _ _ _ _ _ answer granted _ table _ cleared
+    let at = at .before .before in let input = at .args in
+    attach-done (input .t) _ (input .guest) _ _ answer granted _ table _ cleared
 
 pub attach-spec : {M : Type 1} → statement M
 attach-spec =

@@ -9,7 +9,8 @@ returns c =
     let refused = c .if1 .taken in
     let at = c .before in let answer = at .finish-answer .ensures in
     let at = at .before in let here = at .is-here .ensures in
-    finish-refused _ _ _ _ _ _ _ here answer refused
+    let at = at .before .before in let input = at .args in
+    finish-refused (input .t) (input .guest) (input .opcode) (input .verdict) _ _ _ here answer refused
 
 returns-2 : tie.Need-returns-2
 returns-2 c =
@@ -18,7 +19,8 @@ returns-2 c =
     let at = at .before in let granted = at .if1 .left in
     let at = at .before in let answer = at .finish-answer .ensures in
     let at = at .before in let here = at .is-here .ensures in
-    finish-done _ _ _ _ _ _ _ here answer granted _ _ status written
+    let at = at .before .before in let input = at .args in
+    finish-done (input .t) (input .guest) (input .opcode) (input .verdict) _ _ _ here answer granted _ _ status written
 
 pub finish-spec : {M : Type 1} → statement M
 finish-spec =
