@@ -2,7 +2,7 @@
 -- Assumes nothing.
 use Prim.Native.Nat.{ℕ}
 use mathlib.Core.Path.{_≡_, refl, sym, ap, _∙_}
-use mathlib.Core.Bool.{Bool, true}
+use mathlib.Core.Bool.{Bool}
 use mathlib.Core.List.{List, []}
 use lib.Dec.{ltb}
 use lib.ListN.{length, replicate}
@@ -21,9 +21,8 @@ use Rattle.model.specs.Data.{number, partOf, finishChecks, status}
 use Rattle.model.specs.Device.{Attach, Admit, Part, KeyAnswer, Key, Finish, noJob, Outcome, checksOf, outcome, checks, reply, next, world, bare}
 use Rattle.laws.specs.Judge.{first-passed}
 use Rattle.laws.specs.Effect.{replied, granted-next, refused-next, find-bare}
-use Rattle.laws.specs.Found.{alive-accepted, key-found}
-use Rattle.laws.specs.Bounds.{key-fits}
 use Rattle.keystore.specs.Stored.{cleared, keyAt}
+use Rattle.keystore.specs.StoredLaws.{found-key}
 use Rattle.device.specs.Stages.{admission, fetching}
 
 -- ---- set-up
@@ -126,13 +125,8 @@ module _ (t : Table) (b : List ℕ) (g n a : ℕ) (e : a ≡ firstFail (fetching
 
   pub key-done : a ≡ 0 → (at : ℕ) (x : Session) → at ≡ liveAt t g n → ltb at 128 ≡ isLive (find (bare t) g n) → x ≡ sessionIn (find (bare t) g n)
       → (p : List ℕ) → p ≡ keyAt b at x → p ≡ reply v g (Key n) .bytes
-  unfolding outcome keyAt
-  key-done z at x hp ha hx p h =
-      let q = first-passed (fetching t g n (length b)) refl (sym e ∙ z) in
-      let l : isLive (find v g n) ≡ true = find-bare v g n .0 ∙ q .1 .1 .0 in
-      let y : x ≡ sessionIn (find v g n) = hx ∙ sym (find-bare v g n .1) in
-      rw (← replied v g (Key n) a fetched, eq-eqb a ok z)
-      (h ∙ rw (ha ∙ q .1 .1 .0) (key-found v g n at x hp l y (key-fits (t .config) x (rw y (alive-accepted v g n l)))))
+  unfolding outcome
+  key-done z at x hp ha hx p h = rw (← replied v g (Key n) a fetched, eq-eqb a ok z) (h ∙ found-key t b g n at x hp ha hx)
 
 -- ---- finish
 

@@ -17,12 +17,14 @@ ghost use Rattle.table.specs.Narrow.{numberAfter};
 ghost use Rattle.device.specs.Stages.{opening, form, granting, creation, destruction, fetching, admission};
 
 // An answer, and the table afterwards.
+#[repr(C)]
 pub struct Reply {
     pub answer: u8,
     pub table: model::Table,
 }
 
 // An answer, and what an accepted data request names; zeros on refusal.
+#[repr(C)]
 pub struct Admission {
     pub answer: u8,
     pub guest: u8,

@@ -2,24 +2,30 @@
 -- Assumes nothing.
 use Prim.Native.Nat.{ℕ, zero, suc, _+_, _*_, _≤_, _<_}
 use mathlib.Core.Path.{_≡_, refl, sym, ap, _∙_}
-use mathlib.Core.Bool.{cond}
+use mathlib.Core.Bool.{Bool, true, false, cond}
+use mathlib.Core.Option.{Option, none, some}
 use mathlib.Core.List.{List, [], _∷_, _++_}
 use native.Mathlib.Nat.{not-suc-le-zero, le-of-suc-le-suc}
 use native.Mathlib.Omega.{arith}
-use lib.Dec.{eqb}
+use lib.Dec.{eqb, ltb}
 use lib.ListN.{length, getD, take, drop, replicate}
 use lib.Seq.{take-all}
 use borrow.Author.Tests.{eq-eqb, ne-eqb, lt-ltb, le-ltb}
-use Rattle.lists.specs.Test.{both-ways}
+use Rattle.lists.specs.Test.{both-ways, false-true}
 use Rattle.lists.specs.Splice.{splice, splice-fits, splice-then}
 use Rattle.model.specs.declared.Session.{Session}
 use Rattle.model.specs.declared.Table.{Table}
 use Rattle.model.specs.Bytes.{part, padded}
-use Rattle.model.specs.Session.{free, slotOf, placeOf, slotsOf, zeros, keyArea, keyStart, keyLen}
-use Rattle.model.specs.View.{owned}
+use Rattle.model.specs.Session.{World, Entry, free, slotOf, placeOf, slotsOf, zeros, keyArea, keyStart, keyLen}
+use Rattle.model.specs.View.{owned, find, liveAt, isLive, sessionIn}
 use Rattle.model.specs.Act.{withArea, wipe}
+use Rattle.model.specs.Data.{keyBytes}
+use Rattle.model.specs.Device.{world, bare}
 use Rattle.laws.specs.Areas.{length-padded, length-keyArea, wipe-more}
 use Rattle.laws.specs.Slots.{place-at, slots-length}
+use Rattle.laws.specs.Effect.{find-bare}
+use Rattle.laws.specs.Found.{alive-accepted, key-found}
+use Rattle.laws.specs.Bounds.{key-fits}
 use Rattle.keystore.specs.Stored.{stored, cleared, keyAt}
 
 -- ---- keys with zeros behind them
@@ -97,7 +103,31 @@ pub keyStart-le : (service : ℕ) → keyStart service ≤ 64
 unfolding keyStart
 keyStart-le service = both-ways (λ (n : ℕ). n ≤ 64) (eqb service 2) 64 0 (omega arith) (omega arith)
 
-pub key-at : (b key : List ℕ) (i start n : ℕ) (x : Session) → i < 128 → start ≡ keyStart (x .service) → n ≡ keyLen x
-    → key ≡ part b (128 * i + start) n → key ≡ keyAt b i x
+-- the two ways out of `key_place`
+pub no-place : (b : List ℕ) (i : ℕ) (x : Session) → 128 ≤ i → part b 0 0 ≡ keyAt b i x
+unfolding part keyAt
+no-place b i x h = rw (le-ltb _ _ h)
+
+pub key-place : (b : List ℕ) (i start n : ℕ) (x : Session) → i < 128 → start ≡ keyStart (x .service) → n ≡ keyLen x → part b (128 * i + start) n ≡ keyAt b i x
 unfolding keyAt
-key-at b key i start n x h e f p = rw (lt-ltb _ _ h, ← e, ← f) p
+key-place b i start n x h e f = rw (lt-ltb _ _ h, ← e, ← f)
+
+-- the key at the place that a search found is that of the live session, and empty where none is live
+pub found-key : (t : Table) (b : List ℕ) (g n at : ℕ) (x : Session)
+    → at ≡ liveAt t g n → ltb at 128 ≡ isLive (find (bare t) g n) → x ≡ sessionIn (find (bare t) g n) → keyAt b at x ≡ keyBytes (find (world t b) g n)
+unfolding keyAt
+found-key t b g n at x hp ha hx = go (ltb at 128) (sym (ha ∙ sym (find-bare v g n .0)))
+  where
+    v : World
+    v = world t b
+
+    y : x ≡ sessionIn (find v g n)
+    y = hx ∙ sym (find-bare v g n .1)
+
+    none-live : (o : Option Entry) → isLive o ≡ false → [] ≡ keyBytes o
+    none-live none l = refl
+    none-live (some e) l = absurd (false-true (sym l))
+
+    go : (live : Bool) → isLive (find v g n) ≡ live → cond live (part b (128 * at + keyStart (x .service)) (keyLen x)) [] ≡ keyBytes (find v g n)
+    go true l = key-found v g n at x hp l y (key-fits (t .config) x (rw y (alive-accepted v g n l)))
+    go false l = none-live (find v g n) l

@@ -2,9 +2,11 @@
 // above 127 are left as they are.
 ghost use mathlib.Core.Path.{_≡_};
 ghost use mathlib.Core.Bool.{cond};
+ghost use mathlib.Core.List.{List};
+ghost use Prim.Native.Nat.{ℕ};
 ghost use lib.ListN.{length, replicate};
 ghost use Rattle.lists.specs.Splice.{splice};
-ghost use Rattle.model.specs.Bytes.{padded};
+ghost use Rattle.model.specs.Bytes.{padded, part};
 ghost use Rattle.model.specs.Session.{placeOf, slotsOf, zeros, keyArea, areaOf, keyStart, keyLen};
 ghost use Rattle.model.specs.View.{owned};
 ghost use Rattle.model.specs.Act.{wipe};
@@ -119,13 +121,23 @@ fn key_len(x: model::Session) -> usize
     x.keylen as usize
 }
 
-// The key of the session in a slot: a part of the store.
+// Where the key of the session in a slot stands in the store.
+pub fn key_place(slot: usize, x: model::Session) -> model::Span
+    ensures { λ r. ⌜ ((b : List ℕ) → part b (r .start) (r .size) ≡ keyAt b slot x) ⌝ }
+{
+    if 128 <= slot {
+        return model::Span { start: 0, size: 0 };
+    }
+    model::Span {
+        start: 128 * slot + key_start(x.service),
+        size: key_len(x),
+    }
+}
+
+// The key itself: a part of the store.
 pub fn key_part<'a>(store: &'a [u8], slot: usize, x: model::Session) -> &'a [u8]
     ensures { λ r. ⌜ now r ≡ keyAt (now (store .entry)) slot x ⌝ }
 {
-    if 128 <= slot {
-        return &store[0..0];
-    }
-    let at = 128 * slot + key_start(x.service);
-    wire::part(store, at, key_len(x))
+    let p = key_place(slot, x);
+    wire::part(store, p.start, p.size)
 }

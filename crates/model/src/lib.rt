@@ -41,6 +41,7 @@ pub const LAST_NUMBER: u64 = 4294967295;
 pub const STORE_SIZE: usize = 16384;
 
 // Document 001's virtio_crypto_config, field by field.
+#[repr(C)]
 pub struct Config {
     pub status: u32,
     pub queues: u32,
@@ -83,7 +84,15 @@ pub enum Field {
     Aad,
 }
 
+// Where a part or key lies in the bytes that were lent.
+#[repr(C)]
+pub struct Span {
+    pub start: usize,
+    pub size: usize,
+}
+
 // A session, or all zero where the slot is free.
+#[repr(C)]
 pub struct Slot {
     pub number: u64,
     pub aad: u32,
@@ -97,6 +106,7 @@ pub struct Slot {
 }
 
 // `reserve` and `cap` are the guest's shares, `last` the last session number given since its last attach.
+#[repr(C)]
 pub struct Guest {
     pub attached: bool,
     pub reserve: u8,
@@ -104,6 +114,7 @@ pub struct Guest {
     pub last: u64,
 }
 
+#[repr(C)]
 pub struct Table {
     pub config: Config,
     pub slots: [Slot; 128],

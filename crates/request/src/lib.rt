@@ -5,6 +5,7 @@ ghost use mathlib.Core.Bool.{cond, _&&_};
 ghost use mathlib.Core.List.{_++_};
 ghost use Prim.Native.Nat.{_+_, _≤_};
 ghost use lib.Dec.{eqb, leb};
+ghost use Rattle.model.specs.Bytes.{part};
 ghost use Rattle.model.specs.Answer.{firstFail};
 ghost use Rattle.model.specs.Setup.{configOk, configOf, setUpOrder, attachChecks};
 ghost use Rattle.model.specs.Control.{asked, plainCreate, serviceOf, creating, opcodeOk, createPart, placeChecks, headChecks, sessionChecks, endChecks};
@@ -125,19 +126,36 @@ pub fn lengths(r: &[u8]) -> model::Lengths
     }
 }
 
-// A variable part of a data request.
-pub fn part<'a>(r: &'a [u8], field: model::Field) -> &'a [u8]
-    ensures { λ p. ⌜ now p ≡ partOf field (now (r .entry)) ⌝ }
+// Where a variable part of a data request stands, whether or not there are as many bytes.
+pub fn place(r: &[u8], field: model::Field) -> model::Span
+    ensures { λ p. ⌜ part (now (r .entry)) (p .start) (p .size) ≡ partOf field (now (r .entry)) ⌝ }
 {
     let n = lengths(r);
     let iv = start_of(wire::le32(r, 0));
     let source = iv + n.iv as usize;
     let aad = source + n.source as usize;
     match field {
-        model::Field::Iv => wire::part(r, iv, n.iv as usize),
-        model::Field::Source => wire::part(r, source, n.source as usize),
-        model::Field::Aad => wire::part(r, aad, n.aad as usize),
+        model::Field::Iv => model::Span {
+            start: iv,
+            size: n.iv as usize,
+        },
+        model::Field::Source => model::Span {
+            start: source,
+            size: n.source as usize,
+        },
+        model::Field::Aad => model::Span {
+            start: aad,
+            size: n.aad as usize,
+        },
     }
+}
+
+// A variable part of a data request.
+pub fn part<'a>(r: &'a [u8], field: model::Field) -> &'a [u8]
+    ensures { λ p. ⌜ now p ≡ partOf field (now (r .entry)) ⌝ }
+{
+    let p = place(r, field);
+    wire::part(r, p.start, p.size)
 }
 
 // ---- checks

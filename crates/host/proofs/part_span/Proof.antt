@@ -1,0 +1,9 @@
+-- `host::part_span` meets its contract.
+use borrow.Author.Needs.{needs}
+use Rattle.host.specs.SpanLaws.{field-located}
+use Rattle.host.proofs.part_span.Statement.{statement}
+use Rattle.host.proofs.part_span.Tie as tie
+
+pub part-span-spec : {M : Type 1} → statement M
+part-span-spec =
+    tie.close (tie.spec (λ c κs. search needs) (λ c κs. search needs) (λ c κs. search needs) (λ c. search field-located))

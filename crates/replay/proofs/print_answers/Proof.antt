@@ -1,0 +1,27 @@
+-- `replay::print_answers` is safe and ends.
+use Prim.Native.Nat.{_≤_, _-_}
+use borrow.Author.Needs.{needs}
+use Rattle.replay.proofs.print_answers.Statement.{statement}
+use Rattle.replay.proofs.print_answers.Tie as tie
+
+abbrev Inv-loop : tie.InvT-loop
+Inv-loop count answers i₀ i = i ≤ 10921
+
+abbrev μ-loop : tie.MeasureT-loop
+μ-loop count answers i₀ i = 10921 - i
+
+pub print-answers-spec : {M : Type 1} → statement M
+print-answers-spec =
+    tie.close
+    (tie.spec
+    Inv-loop
+    μ-loop
+    (λ c. search needs)
+    (λ c. search needs)
+    (λ c. search needs)
+    (λ c. search needs)
+    (λ c κs. search needs)
+    (λ c. search needs)
+    (λ c. search needs)
+    (λ c. search needs)
+    (λ c. search needs))

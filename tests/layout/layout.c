@@ -1,0 +1,204 @@
+/* The offsets, sizes and numbers of the definitions against those of the kernel's own header. ours.h is made from crates/model/specs by ours.awk.
+ * The kernel's header has the requests of devices without revision 1: each service's structure is padded to 56 or 48 bytes, so the unpadded ones are
+ * compared. Where its fields differ from document 001's, a comment says how. */
+#include <linux/virtio_crypto.h>
+#include <stddef.h>
+#include <stdio.h>
+
+#include "ours.h"
+#include "vcrypto.h"
+
+#define COUNT(...) (sizeof((size_t[]){__VA_ARGS__}) / sizeof(size_t))
+#define SIZE_OF(type, field) sizeof(((struct type *)0)->field)
+
+static int wrong = 0;
+
+static void same(const char *what, size_t ours, size_t theirs)
+{
+    if (ours != theirs) {
+        printf("tests/layout: %s: %zu here, %zu in the kernel's header\n", what, ours, theirs);
+        wrong = 1;
+    }
+}
+
+static void same_list(const char *what, const size_t *ours, size_t n, const size_t *theirs, size_t m)
+{
+    same(what, n, m);
+    for (size_t i = 0; i < n && i < m; i++)
+        same(what, ours[i], theirs[i]);
+}
+
+/* A field that is read, which in the kernel's header stands `base` bytes and its structure's offset from the start. */
+#define FIELD(read, base, type, field)                                                   \
+    do {                                                                                 \
+        same("offset of " #type "." #field, READ_##read, (base) + offsetof(struct type, field)); \
+        same("width of " #type "." #field, WIDTH_##read, SIZE_OF(type, field));          \
+    } while (0)
+
+/* All numbers of a definition, and one of them. */
+#define LIST(name, ...) same_list(#name, (size_t[]){NUMBERS_##name}, COUNT(NUMBERS_##name), (size_t[]){__VA_ARGS__}, COUNT(__VA_ARGS__))
+#define NUMBER(name, i, theirs) same(#name, (size_t[]){NUMBERS_##name}[i], theirs)
+
+/* A field of the configuration, read by the definition and declared in vcrypto.h. */
+#define CONFIG(ours, theirs)                                                                                         \
+    do {                                                                                                             \
+        FIELD(configOf_##ours, 0, virtio_crypto_config, theirs);                                                     \
+        same("vcrypto_config." #ours, offsetof(struct vcrypto_config, ours), offsetof(struct virtio_crypto_config, theirs)); \
+        same("vcrypto_config." #ours, SIZE_OF(vcrypto_config, ours), SIZE_OF(virtio_crypto_config, theirs));         \
+    } while (0)
+
+static void configuration(void)
+{
+    CONFIG(status, status);
+    CONFIG(queues, max_dataqueues);
+    CONFIG(services, crypto_services);
+    CONFIG(ciphers, cipher_algo_l);
+    CONFIG(ciphers2, cipher_algo_h);
+    CONFIG(hashes, hash_algo);
+    CONFIG(macs, mac_algo_l);
+    CONFIG(macs2, mac_algo_h);
+    CONFIG(aeads, aead_algo);
+    CONFIG(cipherkey, max_cipher_key_len);
+    CONFIG(authkey, max_auth_key_len);
+    /* 001 has no asymmetric service, and this field is reserved in it */
+    CONFIG(reserved, akcipher_algo);
+    CONFIG(size, max_size);
+    NUMBER(setUpOrder, 0, sizeof(struct virtio_crypto_config));
+    same("VCRYPTO_CONFIG_SIZE", VCRYPTO_CONFIG_SIZE, sizeof(struct virtio_crypto_config));
+    NUMBER(configOk, 0, VIRTIO_CRYPTO_S_HW_READY);
+}
+
+static void control_requests(void)
+{
+    const size_t part = offsetof(struct virtio_crypto_op_ctrl_req, u);
+
+    /* flag at 8 is read by nobody, nor the field at 12: reserved in 001, queue_id in the kernel's header */
+    FIELD(opcode, 0, virtio_crypto_ctrl_header, opcode);
+    FIELD(formChecks, 0, virtio_crypto_ctrl_header, algo);
+    NUMBER(newEntry, 0, sizeof(struct virtio_crypto_ctrl_header));
+    same("fixed part of a control request", sizeof(struct virtio_crypto_ctrl_header), part);
+
+    /* asked_1 to asked_4: cipher, hash, MAC, AEAD */
+    FIELD(asked_1_algo, part, virtio_crypto_sym_create_session_req, u.cipher.para.algo);
+    FIELD(asked_1_keylen, part, virtio_crypto_sym_create_session_req, u.cipher.para.keylen);
+    FIELD(asked_1_direction, part, virtio_crypto_sym_create_session_req, u.cipher.para.op);
+    FIELD(plainCreate, part, virtio_crypto_sym_create_session_req, op_type);
+    LIST(plainCreate, VIRTIO_CRYPTO_SYM_OP_CIPHER);
+
+    FIELD(asked_2_algo, part, virtio_crypto_hash_session_para, algo);
+    FIELD(asked_2_result, part, virtio_crypto_hash_session_para, hash_result_len);
+
+    FIELD(asked_3_algo, part, virtio_crypto_mac_session_para, algo);
+    FIELD(asked_3_result, part, virtio_crypto_mac_session_para, hash_result_len);
+    FIELD(asked_3_keylen, part, virtio_crypto_mac_session_para, auth_key_len);
+
+    /* 001 calls hash_result_len tag_len */
+    FIELD(asked_4_algo, part, virtio_crypto_aead_session_para, algo);
+    FIELD(asked_4_keylen, part, virtio_crypto_aead_session_para, key_len);
+    FIELD(asked_4_result, part, virtio_crypto_aead_session_para, hash_result_len);
+    FIELD(asked_4_aad, part, virtio_crypto_aead_session_para, aad_len);
+    FIELD(asked_4_direction, part, virtio_crypto_aead_session_para, op);
+
+    /* 001's fixed part of a hash ends before the kernel's padding */
+    LIST(createPart, sizeof(struct virtio_crypto_sym_create_session_req), offsetof(struct virtio_crypto_hash_session_para, padding),
+         sizeof(struct virtio_crypto_mac_session_para), sizeof(struct virtio_crypto_aead_session_para));
+    LIST(directionOk, VIRTIO_CRYPTO_OP_ENCRYPT, VIRTIO_CRYPTO_OP_DECRYPT);
+
+    /* so does that of a destroy */
+    FIELD(controlAct, part, virtio_crypto_destroy_session_req, session_id);
+    FIELD(destroyChecks, part, virtio_crypto_destroy_session_req, session_id);
+    NUMBER(endChecks, 0, part + offsetof(struct virtio_crypto_destroy_session_req, padding));
+    NUMBER(headChecks, 4, offsetof(struct virtio_crypto_destroy_session_req, padding));
+
+    /* le 8 session_id, le 4 status, le 4 padding */
+    NUMBER(controlOutcome, 0, sizeof(struct virtio_crypto_session_input));
+    same("session_id is first", 0, offsetof(struct virtio_crypto_session_input, session_id));
+    NUMBER(controlOutcome, 1, offsetof(struct virtio_crypto_session_input, status));
+    NUMBER(controlOutcome, 2, SIZE_OF(virtio_crypto_session_input, status));
+    NUMBER(controlOutcome, 3, SIZE_OF(virtio_crypto_session_input, padding));
+}
+
+static void data_requests(void)
+{
+    const size_t part = offsetof(struct virtio_crypto_op_data_req, u);
+
+    /* algo at 4 and padding at 20 are read by nobody */
+    FIELD(opcode, 0, virtio_crypto_op_header, opcode);
+    FIELD(number, 0, virtio_crypto_op_header, session_id);
+    FIELD(flag, 0, virtio_crypto_op_header, flag);
+    NUMBER(startOf, 0, sizeof(struct virtio_crypto_op_header));
+    same("fixed part of a data request", sizeof(struct virtio_crypto_op_header), part);
+
+    /* lengths_1 to lengths_3: cipher, AEAD, and both hash and MAC */
+    FIELD(lengths_1_iv, part, virtio_crypto_sym_data_req, u.cipher.para.iv_len);
+    FIELD(lengths_1_source, part, virtio_crypto_sym_data_req, u.cipher.para.src_data_len);
+    FIELD(lengths_1_written, part, virtio_crypto_sym_data_req, u.cipher.para.dst_data_len);
+    FIELD(plainData, part, virtio_crypto_sym_data_req, op_type);
+    LIST(plainData, VIRTIO_CRYPTO_SYM_OP_CIPHER);
+
+    FIELD(lengths_2_iv, part, virtio_crypto_aead_para, iv_len);
+    FIELD(lengths_2_aad, part, virtio_crypto_aead_para, aad_len);
+    FIELD(lengths_2_source, part, virtio_crypto_aead_para, src_data_len);
+    FIELD(lengths_2_written, part, virtio_crypto_aead_para, dst_data_len);
+    /* 001 has tag_len and a reserved field behind them, which the kernel's header has not */
+    same("tag_len", READ_lengths_2_result, part + sizeof(struct virtio_crypto_aead_para));
+
+    FIELD(lengths_3_source, part, virtio_crypto_hash_para, src_data_len);
+    FIELD(lengths_3_written, part, virtio_crypto_hash_para, hash_result_len);
+    FIELD(lengths_3_result, part, virtio_crypto_hash_para, hash_result_len);
+    FIELD(lengths_3_source, part, virtio_crypto_mac_para, hash.src_data_len);
+    FIELD(lengths_3_result, part, virtio_crypto_mac_para, hash.hash_result_len);
+
+    /* hash and MAC are one number in the definition */
+    LIST(dataPart, sizeof(struct virtio_crypto_sym_data_req), sizeof(struct virtio_crypto_hash_para),
+         sizeof(struct virtio_crypto_aead_para) + sizeof(__le32) + sizeof(__le32));
+    same("fixed part of a MAC", sizeof(struct virtio_crypto_mac_para), sizeof(struct virtio_crypto_hash_para));
+}
+
+static void numbers(void)
+{
+    LIST(cipher, VIRTIO_CRYPTO_SERVICE_CIPHER);
+    LIST(hash, VIRTIO_CRYPTO_SERVICE_HASH);
+    LIST(mac, VIRTIO_CRYPTO_SERVICE_MAC);
+    LIST(aead, VIRTIO_CRYPTO_SERVICE_AEAD);
+
+    LIST(opcodeOk, VIRTIO_CRYPTO_CIPHER_CREATE_SESSION, VIRTIO_CRYPTO_CIPHER_DESTROY_SESSION, VIRTIO_CRYPTO_HASH_CREATE_SESSION,
+         VIRTIO_CRYPTO_HASH_DESTROY_SESSION, VIRTIO_CRYPTO_MAC_CREATE_SESSION, VIRTIO_CRYPTO_MAC_DESTROY_SESSION, VIRTIO_CRYPTO_AEAD_CREATE_SESSION,
+         VIRTIO_CRYPTO_AEAD_DESTROY_SESSION);
+    LIST(operationOk, VIRTIO_CRYPTO_CIPHER_ENCRYPT, VIRTIO_CRYPTO_CIPHER_DECRYPT, VIRTIO_CRYPTO_HASH, VIRTIO_CRYPTO_MAC, VIRTIO_CRYPTO_AEAD_ENCRYPT,
+         VIRTIO_CRYPTO_AEAD_DECRYPT);
+    LIST(serviceOf, VIRTIO_CRYPTO_OPCODE(1, 0));
+    NUMBER(status, 0, VIRTIO_CRYPTO_AEAD_DECRYPT);
+
+    LIST(ciphers, VIRTIO_CRYPTO_CIPHER_AES_ECB, VIRTIO_CRYPTO_CIPHER_AES_CBC, VIRTIO_CRYPTO_CIPHER_AES_CTR, VIRTIO_CRYPTO_CIPHER_3DES_CBC,
+         VIRTIO_CRYPTO_CIPHER_AES_XTS);
+    LIST(hashes, VIRTIO_CRYPTO_HASH_MD5, VIRTIO_CRYPTO_HASH_SHA1, VIRTIO_CRYPTO_HASH_SHA_224, VIRTIO_CRYPTO_HASH_SHA_256, VIRTIO_CRYPTO_HASH_SHA_384,
+         VIRTIO_CRYPTO_HASH_SHA_512);
+    LIST(macs, VIRTIO_CRYPTO_MAC_HMAC_MD5, VIRTIO_CRYPTO_MAC_HMAC_SHA1, VIRTIO_CRYPTO_MAC_HMAC_SHA_224, VIRTIO_CRYPTO_MAC_HMAC_SHA_256,
+         VIRTIO_CRYPTO_MAC_HMAC_SHA_384, VIRTIO_CRYPTO_MAC_HMAC_SHA_512, VIRTIO_CRYPTO_MAC_CMAC_AES);
+    LIST(aeads, VIRTIO_CRYPTO_AEAD_GCM, VIRTIO_CRYPTO_AEAD_CCM, VIRTIO_CRYPTO_AEAD_CHACHA20_POLY1305);
+
+    /* the kernel's KEY_REJECTED, 6, is of the asymmetric service */
+    LIST(ok, VIRTIO_CRYPTO_OK);
+    LIST(err, VIRTIO_CRYPTO_ERR);
+    LIST(badmsg, VIRTIO_CRYPTO_BADMSG);
+    LIST(notsupp, VIRTIO_CRYPTO_NOTSUPP);
+    LIST(invsess, VIRTIO_CRYPTO_INVSESS);
+    LIST(nospc, VIRTIO_CRYPTO_NOSPC);
+    LIST(ok, VCRYPTO_OK);
+    LIST(err, VCRYPTO_ERR);
+    LIST(badmsg, VCRYPTO_BADMSG);
+    LIST(notsupp, VCRYPTO_NOTSUPP);
+    LIST(invsess, VCRYPTO_INVSESS);
+    LIST(nospc, VCRYPTO_NOSPC);
+    same("the status of a data request", 1, sizeof(struct virtio_crypto_inhdr));
+}
+
+int main(void)
+{
+    configuration();
+    control_requests();
+    data_requests();
+    numbers();
+    return wrong;
+}
