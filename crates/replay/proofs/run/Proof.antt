@@ -122,7 +122,7 @@ loop-again : tie.Need-loop-again Inv-loop μ-loop
 loop-again c =
     let at = c .before .before in let tally = at .count-copy .ensures in
     let at = at .before in let store = at .store4 .given in
-    let at = at .before in let did = at .answer .ensures in let got = at .answer .result .answer in
+    let at = at .before in let did = at .answer .ensures in
     let at = at .before .before in let body = at .body .ensures in
     let at = at .before in let here = at .record-at .ensures in
     let at = at .before in let more = at .loop-test .taken in
@@ -131,7 +131,7 @@ loop-again c =
       inv .1,
       walks-more _ _ _ _ more (inv .2) _ here,
       omega arith,
-      length-set (loop .answers) (loop .i) got ∙ inv .4,
+      length-set (loop .answers) (loop .i) _ ∙ inv .4,
       omega (arith, store),
       answers-more _ _ _ _ more _ here _ (loop .answers) (loop .i) (omega (arith, inv .3, inv .4)) (inv .6) _ body _ _ _ did,
       tally ∙ tally-next _ _ _ _ more _ here _ (loop .answers) (loop .i) (omega (arith, inv .3, inv .4)) (inv .6) _ body _ _ _ did _ (inv .7) (omega (arith, inv .3)),
