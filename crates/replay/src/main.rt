@@ -2,7 +2,7 @@
 ghost use mathlib.Core.Path.{_≡_};
 ghost use lib.ListN.{length, take, replicate};
 ghost use Rattle.model.specs.Device.{reply, next, world};
-ghost use Rattle.trace.specs.Replay.{goodTrace, requestOf, blank, everything, startedOn, shown};
+ghost use Rattle.trace.specs.Replay.{goodTrace, requestOf, blank, startedOn, shown};
 ghost use Rattle.tally.specs.Count.{tallyOf};
 use device::Reply;
 use libc::STDIN_FILENO;
@@ -46,76 +46,13 @@ fn zeros() -> [u8; 4096]
     [0; 4096]
 }
 
-// The configuration with everything offered and limits at their largest.
-fn config() -> [u8; 56]
-    ensures { λ r. ⌜ r ≡ everything ⌝ }
-{
-    [
-        1,
-        0,
-        0,
-        0,
-        8,
-        0,
-        0,
-        0,
-        15,
-        0,
-        0,
-        0,
-        28,
-        33,
-        0,
-        0,
-        0,
-        0,
-        0,
-        0,
-        126,
-        0,
-        0,
-        0,
-        126,
-        0,
-        0,
-        4,
-        0,
-        0,
-        0,
-        0,
-        14,
-        0,
-        0,
-        0,
-        64,
-        0,
-        0,
-        0,
-        64,
-        0,
-        0,
-        0,
-        0,
-        0,
-        0,
-        0,
-        0,
-        0,
-        1,
-        0,
-        0,
-        0,
-        0,
-        0,
-    ]
-}
-
-// Replay's set-up.
+// Replay's set-up: a configuration with everything offered and limits at their largest, reserves of 8 and caps of 32.
 fn start(store: &mut [u8]) -> Table
     ensures { λ t. ⌜ world t (now (store .exit)) ≡ startedOn (now (store .entry)) ⌝ }
 {
-    let bytes = config();
-    let r = device::set_up(&bytes, [8; 8], [32; 8], store);
+    let config =
+        b"\x01\0\0\0\x08\0\0\0\x0f\0\0\0\x1c\x21\0\0\0\0\0\0\x7e\0\0\0\x7e\0\0\x04\0\0\0\0\x0e\0\0\0\x40\0\0\0\x40\0\0\0\0\0\0\0\0\0\x01\0\0\0\0\0";
+    let r = device::set_up(config, [8; 8], [32; 8], store);
     r.table
 }
 
