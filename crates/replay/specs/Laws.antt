@@ -6,7 +6,7 @@ use mathlib.Core.Bool.{Bool, true, false, cond}
 use mathlib.Core.List.{List, [], _∷_, _++_, append-assoc, append-nil}
 use native.Mathlib.Omega.{arith}
 use lib.Dec.{eqb}
-use lib.ListN.{length, take, set, replicate, length-replicate}
+use lib.ListN.{length, take, set, replicate, length-take, length-replicate}
 use lib.Seq.{take-all, length-take-le, take-suc-set}
 use borrow.Author.Tests.{eq-eqb, ne-eqb}
 use Rattle.lists.specs.Sum.{sumTo}
@@ -24,7 +24,9 @@ use Rattle.trace.specs.declared.Records.{Records}
 use Rattle.trace.specs.Replay.{recordAt, recordsOf, goodTrace, requestOf, blank, callAt, callsFrom, callsOf, everything, startedOn, started, answersFrom, shown}
 use Rattle.tally.specs.declared.Tally.{Tally}
 use Rattle.tally.specs.Count.{tallyOf, none, afterAnswer}
-use Rattle.tally.specs.Laws.{tally-more}
+use Rattle.tally.specs.Laws.{tally-more, granted-within}
+use Rattle.text.specs.Lines.{text, Puts}
+use Rattle.replay.specs.Printed.{badTrace, printed}
 
 -- an answer, a table and a key store are those of a call
 abbrev pub Did : World → ℕ → Request → ℕ → Table → List ℕ → Type 0
@@ -132,17 +134,58 @@ module _ (w : World) (s : List ℕ) (at n : ℕ) (more : 0 < n) (r : Record) (he
 -- ---- all of them
 
 module _ (s : List ℕ) (out : List ℕ) where
-  pub run-bad : (y : Tally) → y ≡ none → goodTrace s ≡ false → (false ≡ goodTrace s) × ((y ≡ tallyOf (shown s)) × (take (length (shown s)) out ≡ shown s))
-  unfolding shown tallyOf
-  run-bad y z e = rw e (refl, (z, refl))
+  -- what `run` gives: whether the trace is good, the tally, the answers, and that they are few
+  abbrev pub Answered : Bool → Tally → Type 0
+  Answered good y = (good ≡ goodTrace s) × ((y ≡ tallyOf (shown s)) × ((take (length (shown s)) out ≡ shown s) × (length (shown s) ≤ 10921)))
 
-  pub run-done : (w : World) (at n i : ℕ) (y : Tally) → goodTrace s ≡ true → i ≤ length out → n ≤ 0
+  pub run-bad : (y : Tally) → y ≡ none → goodTrace s ≡ false → Answered false y
+  unfolding shown tallyOf
+  run-bad y z e = rw e (refl, (z, (refl, omega arith)))
+
+  pub run-done : (w : World) (at n i : ℕ) (y : Tally) → goodTrace s ≡ true → length out ≡ 10921 → i ≤ 10921 → n ≤ 0
       → take i out ++ answersFrom w (callsFrom s at n) ≡ answersFrom started (callsOf s) → y ≡ tallyOf (take i out)
-      → (true ≡ goodTrace s) × ((y ≡ tallyOf (shown s)) × (take (length (shown s)) out ≡ shown s))
+      → Answered true y
   unfolding shown callsFrom answersFrom
-  run-done w at n i y g h done e tally =
+  run-done w at n i y g room h done e tally =
       let z : n ≡ 0 = omega arith in
       let l : List ℕ = answersFrom started (callsOf s) in
       let all : take i out ≡ l = sym (append-nil (take i out)) ∙ ap (λ (m : ℕ). take i out ++ answersFrom w (callsFrom s at m)) (sym z) ∙ e in
-      let count : length l ≡ i = ap length (sym all) ∙ length-take-le i out h in
-      rw g (refl, (tally ∙ ap tallyOf all, ap (λ (m : ℕ). take m out) count ∙ all))
+      let count : length l ≡ i = ap length (sym all) ∙ length-take-le i out (omega arith) in
+      rw g (refl, (tally ∙ ap tallyOf all, (ap (λ (m : ℕ). take m out) count ∙ all, omega (arith, count))))
+
+  -- so many answers stand there
+  pub answers-within : (good : Bool) (y : Tally) → Answered good y → y .records ≤ length out
+  unfolding tallyOf
+  answers-within good y a =
+      let records : y .records ≡ length (shown s) = ap (λ (x : Tally). x .records) (a .1 .0) in
+      omega (arith, records, ap length (a .1 .1 .0), length-take (length (shown s)) out)
+
+-- ---- what is printed
+
+module _ (s before after : List ℕ) (end : ℕ) where
+  -- what `transcript` leaves
+  abbrev pub Transcript : Type 0
+  Transcript = (end ≤ length after) × (110000 ≤ length before → take end after ≡ printed s)
+
+  pub printed-bad : (good : Bool) → good ≡ goodTrace s → good ≡ false → Puts before 0 badTrace after end → Transcript
+  unfolding printed
+  printed-bad good e b p =
+      let bad : goodTrace s ≡ false = sym e ∙ b in
+      (omega (arith, p .0, p .1 .0 (omega arith)), λ h. p .1 .1 (omega arith) .1 ∙ sym (rw bad))
+
+  pub printed-good : (good : Bool) (y : Tally) (out shorter : List ℕ) (granted : ℕ) → Answered s out good y → good ≡ true
+      → (end ≤ length after) × (length shorter ≤ 10921 → granted ≤ 10921 → 110000 ≤ length before → take end after ≡ text shorter granted)
+      → shorter ≡ take (y .records) out → granted ≡ y .granted → Transcript
+  unfolding printed tallyOf
+  printed-good good y out shorter granted a b p e f =
+      let fine : goodTrace s ≡ true = sym (a .0) ∙ b in
+      let records : y .records ≡ length (shown s) = ap (λ (x : Tally). x .records) (a .1 .0) in
+      let oks : granted ≡ tallyOf (shown s) .granted = f ∙ ap (λ (x : Tally). x .granted) (a .1 .0) in
+      let all : shorter ≡ shown s = e ∙ ap (λ (m : ℕ). take m out) records ∙ a .1 .1 .0 in
+      let few = a .1 .1 .1 in (
+        p .0,
+        λ h. p .1 (omega (arith, few, ap length all)) (omega (arith, few, oks, granted-within (shown s))) h
+            ∙ ap (λ (l : List ℕ). text l granted) all
+            ∙ ap (text (shown s)) oks
+            ∙ sym (rw fine),
+      )

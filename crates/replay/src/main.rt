@@ -1,9 +1,11 @@
-// Replays a trace from standard input: a line for each record, then the counts; or `bad trace`.
+// Replays a trace from standard input: a line for each record, then the counts; or `bad trace`. Only `main` reads and writes.
+ghost use Prim.Native.Nat.{_≤_};
 ghost use mathlib.Core.Path.{_≡_};
 ghost use lib.ListN.{length, take, replicate};
 ghost use Rattle.model.specs.Device.{reply, next, world};
 ghost use Rattle.trace.specs.Replay.{goodTrace, requestOf, blank, startedOn, shown};
 ghost use Rattle.tally.specs.Count.{tallyOf};
+ghost use Rattle.replay.specs.Printed.{printed};
 use device::Reply;
 use libc::STDIN_FILENO;
 use libc::STDOUT_FILENO;
@@ -31,6 +33,13 @@ fn no_answers() -> [u8; 10921]
     ensures { λ r. ⌜ 10921 ≡ length r ⌝ }
 {
     [0; 10921]
+}
+
+// Room for what is printed of the longest trace: 10,921 lines of at most 10 bytes, and a last one.
+fn room() -> [u8; 110000]
+    ensures { λ r. ⌜ 110000 ≡ length r ⌝ }
+{
+    [0; 110000]
 }
 
 fn key_store() -> [u8; 16384]
@@ -102,6 +111,7 @@ fn run(s: &[u8]) -> Ran
     ensures good { λ r. ⌜ r .good ≡ goodTrace (now (s .entry)) ⌝ }
     ensures tally { λ r. ⌜ r .tally ≡ tallyOf (shown (now (s .entry))) ⌝ }
     ensures answers { λ r. ⌜ take (length (shown (now (s .entry)))) (r .answers) ≡ shown (now (s .entry)) ⌝ }
+    ensures few { λ r. ⌜ length (shown (now (s .entry))) ≤ 10921 ⌝ }
 {
     let mut answers = no_answers();
     let mut tally = tally::empty();
@@ -134,37 +144,25 @@ fn run(s: &[u8]) -> Ran
     }
 }
 
-// Two numbers on a line.
-fn print_line(first: u64, second: u64) {
-    io::print_decimal(STDOUT_FILENO, first);
-    io::write_all(STDOUT_FILENO, b" ");
-    io::print_decimal(STDOUT_FILENO, second);
-    io::write_all(STDOUT_FILENO, b"\n");
-}
-
-// A line for each answer: its index and itself.
-fn print_answers(answers: [u8; 10921], count: u32) {
-    let mut i: usize = 0;
-    while i < count as usize {
-        if 10921 <= i {
-            return;
-        }
-        print_line(i as u64, answers[i] as u64);
-        i += 1;
+// What is printed of a trace, into the front of `out`; the result is its length.
+fn transcript(s: &[u8], out: &mut [u8]) -> usize
+    ensures within { λ r. ⌜ r ≤ length (now (out .exit)) ⌝ }
+    ensures printed { λ r. ⌜ (110000 ≤ length (now (out .entry)) → take r (now (out .exit)) ≡ printed (now (s .entry))) ⌝ }
+{
+    let ran = run(s);
+    if !ran.good {
+        return text::put_bytes(out, 0, b"bad trace\n");
     }
+    let answers = ran.answers;
+    let tally = ran.tally;
+    let n = tally.records as usize;
+    text::put_text(&answers[..n], tally.granted, out)
 }
 
 fn main() {
     let mut bytes = input();
     let n = io::read_full(STDIN_FILENO, &mut bytes);
-    let ran = run(&bytes[..n]);
-    if !ran.good {
-        io::write_all(STDOUT_FILENO, b"bad trace\n");
-        return;
-    }
-    let tally = ran.tally;
-    let answers = ran.answers;
-    print_answers(answers, tally.records);
-    io::write_all(STDOUT_FILENO, b"done ");
-    print_line(tally.records as u64, tally.granted as u64);
+    let mut out = room();
+    let end = transcript(&bytes[..n], &mut out);
+    io::write_all(STDOUT_FILENO, &out[..end]);
 }

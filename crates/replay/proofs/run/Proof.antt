@@ -140,7 +140,7 @@ loop-again c =
 returns-2 : tie.Need-returns-2 Inv-loop μ-loop
 returns-2 c =
     let loop = c .before .loop in let inv = loop .inv in
-    run-done _ _ _ _ _ (loop .i) _ (inv .0) (omega (arith, inv .3, inv .4)) (c .loop-test .left) (inv .6) (inv .7)
+    run-done _ _ _ _ _ (loop .i) _ (inv .0) (inv .4) (omega (arith, inv .3)) (c .loop-test .left) (inv .6) (inv .7)
 
 pub run-spec : {M : Type 1} → statement M
 run-spec =
