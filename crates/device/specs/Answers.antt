@@ -7,6 +7,7 @@ use mathlib.Core.List.{List, [], _∷_, _++_}
 use lib.Dec.{ltb}
 use lib.ListN.{length}
 use borrow.Author.Tests.{lt-ltb, le-ltb, not-true, not-false}
+use Rattle.model.specs.declared.Config.{Config}
 use Rattle.model.specs.declared.Guest.{Guest}
 use Rattle.model.specs.declared.Lengths.{Lengths}
 use Rattle.model.specs.declared.Session.{Session}
@@ -20,7 +21,7 @@ use Rattle.model.specs.Data.{lengths, operationChecks, jobChecks, keyChecks}
 use Rattle.model.specs.Device.{bare}
 use Rattle.laws.specs.Chain.{all-hold, fails, goes-on}
 use Rattle.laws.specs.Stages.{stop, go-on}
-use Rattle.device.specs.Stages.{opening, form, granting, creation, destruction, admission, fetching}
+use Rattle.device.specs.Stages.{opening, form, granting, creation, destruction, sessionless, suited, admission, fetching}
 
 -- ---- the session number and the room; r is the guest's record
 
@@ -68,19 +69,27 @@ module _ (t : Table) (g : ℕ) (r : List ℕ) (room store a : ℕ) (e : a ≡ fi
     pub destroy-end : (m op : ℕ) → op ≡ le32 r 0 → a ≡ 0 → m ≡ firstFail (endChecks (ltb at 128) x op (length r)) → Chosen m
     destroy-end m op ho z f = choice m (go-on (opening t g r room store) _ a m refl e z (f ∙ rw (ha, hx, hn, ho)))
 
--- ---- data requests; a is the answer of the checks that need no session
+-- ---- data requests: the fields that each stage reads
 
-module _ (t : Table) (g : ℕ) (r : List ℕ) (room a op flag : ℕ) (here : Bool) (ho : op ≡ le32 r 0) (hf : flag ≡ le32 r 16) (hh : here ≡ present g (guestAt t g))
-    (e : a ≡ firstFail (operationChecks (t .config) here op flag (length r) room)) where
+pub first-read : (k : Config) (here : Bool) (r : List ℕ) (room a op flag : ℕ) → op ≡ le32 r 0 → flag ≡ le32 r 16
+    → a ≡ firstFail (operationChecks k here op flag (length r) room) → a ≡ firstFail (sessionless k here r room)
+first-read k here r room a op flag ho hf e = rw (← ho, ← hf) e
+
+pub last-read : (k : Config) (alive : Bool) (x : Session) (r : List ℕ) (room m op : ℕ) (plain : Bool) (l : Lengths) → op ≡ le32 r 0 → plain ≡ plainCreate r
+    → l ≡ lengths r → m ≡ firstFail (jobChecks k alive x op plain l (length r) room) → m ≡ firstFail (suited k alive x r room)
+last-read k alive x r room m op plain l ho hp hl f = f ∙ rw (hp, hl, ho)
+
+-- a is the answer of the checks that need no session
+
+module _ (t : Table) (g : ℕ) (r : List ℕ) (room a : ℕ) (here : Bool) (hh : here ≡ present g (guestAt t g))
+    (e : a ≡ firstFail (sessionless (t .config) here r room)) where
   pub data-stop : (a ≡ 0 → ⊥) → a ≡ firstFail (admission t g r room)
-  data-stop d = stop (operationChecks (t .config) (present g (guestAt t g)) (opcode r) (le32 r 16) (length r) room) _ a (rw (← hh, ← ho, ← hf) e) d
+  data-stop d = stop (sessionless (t .config) (present g (guestAt t g)) r room) _ a (rw (← hh) e) d
 
-  pub data-job : (m at n : ℕ) (x : Session) (plain : Bool) (l : Lengths) → a ≡ 0 → n ≡ le64 r 8 → ltb at 128 ≡ isLive (find (bare t) g n)
-      → x ≡ sessionIn (find (bare t) g n) → plain ≡ plainCreate r → l ≡ lengths r
-      → m ≡ firstFail (jobChecks (t .config) (ltb at 128) x op plain l (length r) room) → m ≡ firstFail (admission t g r room)
-  data-job m at n x plain l z hn ha hx hp hl f =
-      go-on (operationChecks (t .config) (present g (guestAt t g)) (opcode r) (le32 r 16) (length r) room) _ a m refl (rw (← hh, ← ho, ← hf) e) z
-      (f ∙ rw (ha, hx, hp, hl, hn, ho))
+  pub data-job : (m at n : ℕ) (x : Session) → a ≡ 0 → n ≡ le64 r 8 → ltb at 128 ≡ isLive (find (bare t) g n) → x ≡ sessionIn (find (bare t) g n)
+      → m ≡ firstFail (suited (t .config) (ltb at 128) x r room) → m ≡ firstFail (admission t g r room)
+  data-job m at n x z hn ha hx f =
+      go-on (sessionless (t .config) (present g (guestAt t g)) r room) _ a m refl (rw (← hh) e) z (f ∙ rw (ha, hx, hn))
 
 -- ---- key fetch
 

@@ -23,7 +23,8 @@ use Rattle.laws.specs.Judge.{first-passed}
 use Rattle.laws.specs.Effect.{replied, granted-next, refused-next, find-bare}
 use Rattle.keystore.specs.Stored.{cleared, keyAt}
 use Rattle.keystore.specs.StoredLaws.{found-key}
-use Rattle.device.specs.Stages.{admission, fetching}
+use Rattle.device.specs.Stages.{sessionless, suited, admission, fetching}
+use Rattle.device.specs.Answers.{data-stop, data-job}
 
 -- ---- set-up
 
@@ -104,6 +105,23 @@ module _ (t : Table) (g : ℕ) (r w : List ℕ) (a : ℕ) (e : a ≡ firstFail (
     pub part-done : a ≡ 0 → (p : List ℕ) → p ≡ partOf f r → p ≡ reply (bare t) g (Part f r w) .bytes
     unfolding outcome
     part-done z p h = rw (← replied (bare t) g (Part f r w) a parted, eq-eqb a ok z) h
+
+-- a part, stage after stage: a is the answer of the checks that need no session, m that of the others
+module _ (t : Table) (g : ℕ) (r w : List ℕ) (a : ℕ) (here : Bool) (f : Field) (hh : here ≡ present g (guestAt t g))
+    (e : a ≡ firstFail (sessionless (t .config) here r (length w))) where
+  pub part-stop : (a ≡ 0 → ⊥) → [] ≡ reply (bare t) g (Part f r w) .bytes
+  part-stop d = part-refused t g r w a (data-stop t g r (length w) a here hh e d) f d
+
+  module _ (m at n : ℕ) (x : Session) (z : a ≡ 0) (hn : n ≡ le64 r 8) (ha : ltb at 128 ≡ isLive (find (bare t) g n)) (hx : x ≡ sessionIn (find (bare t) g n))
+      (q : m ≡ firstFail (suited (t .config) (ltb at 128) x r (length w))) where
+    judged : m ≡ firstFail (admission t g r (length w))
+    judged = data-job t g r (length w) a here hh e m at n x z hn ha hx q
+
+    pub part-empty : (m ≡ 0 → ⊥) → [] ≡ reply (bare t) g (Part f r w) .bytes
+    part-empty d = part-refused t g r w m judged f d
+
+    pub part-whole : m ≡ 0 → (p : List ℕ) → p ≡ partOf f r → p ≡ reply (bare t) g (Part f r w) .bytes
+    part-whole y p h = part-done t g r w m judged f y p h
 
 -- ---- key fetch
 

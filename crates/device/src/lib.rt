@@ -14,7 +14,7 @@ ghost use Rattle.model.specs.Setup.{setUpAnswer, setUp};
 ghost use Rattle.model.specs.Control.{newEntry};
 ghost use Rattle.model.specs.Device.{Attach, Control, Admit, Part, KeyAnswer, Key, Finish, ifGranted, reply, next, world, bare};
 ghost use Rattle.table.specs.Narrow.{numberAfter};
-ghost use Rattle.device.specs.Stages.{opening, form, granting, creation, destruction, fetching, admission};
+ghost use Rattle.device.specs.Stages.{opening, form, granting, creation, destruction, fetching, sessionless, suited, admission};
 
 // An answer, and the table afterwards.
 #[repr(C)]
@@ -243,30 +243,36 @@ pub fn control(
     destroy(t, guest, readable, writable, store)
 }
 
-// All checks of a data request. The slots are searched only where nothing else refuses it.
-fn data_answer(t: model::Table, guest: u8, readable: &[u8], room: usize) -> u8
-    ensures { λ a. ⌜ a ≡ firstFail (admission t guest (now (readable .entry)) room) ⌝ }
+// The checks of a data request that need no session.
+fn first_answer(k: model::Config, here: bool, readable: &[u8], room: usize) -> u8
+    ensures { λ a. ⌜ a ≡ firstFail (sessionless k here (now (readable .entry)) room) ⌝ }
 {
     let op = wire::le32(readable, 0);
     let flag = wire::le32(readable, 16);
+    request::operation_answer(k, here, op, flag, readable.len(), room)
+}
+
+// The checks on the session found and on the lengths.
+fn last_answer(k: model::Config, found: table::Found, readable: &[u8], room: usize) -> u8
+    ensures { λ a. ⌜ a ≡ firstFail (suited k (ltb (found .at) 128) (found .session) (now (readable .entry)) room) ⌝ }
+{
+    let op = wire::le32(readable, 0);
+    let plain = request::is_plain(readable);
+    let n = request::lengths(readable);
     let len = readable.len();
-    let first = request::operation_answer(t.config, is_here(t, guest), op, flag, len, room);
+    request::job_answer(k, found.at < 128, found.session, op, plain, n, len, room)
+}
+
+// All checks of a data request, the slots last. For `admit` alone: as its only caller it takes this in, and the table is not copied on the way.
+fn data_answer(t: model::Table, guest: u8, readable: &[u8], room: usize) -> u8
+    ensures { λ a. ⌜ a ≡ firstFail (admission t guest (now (readable .entry)) room) ⌝ }
+{
+    let first = first_answer(t.config, is_here(t, guest), readable, room);
     if first != model::OK {
         return first;
     }
     let found = table::lookup(t, guest, wire::le64(readable, 8));
-    let plain = request::is_plain(readable);
-    let n = request::lengths(readable);
-    request::job_answer(
-        t.config,
-        found.at < 128,
-        found.session,
-        op,
-        plain,
-        n,
-        len,
-        room,
-    )
+    last_answer(t.config, found, readable, room)
 }
 
 // Takes or refuses a data request.
@@ -305,8 +311,13 @@ fn part<'a, 'b>(
 ) -> &'a [u8]
     ensures { λ r. ⌜ now r ≡ reply (bare t) guest (Part field (now (readable .entry)) (now (writable .entry))) .bytes ⌝ }
 {
-    let answer = data_answer(t, guest, readable, writable.len());
-    if answer != model::OK {
+    let first = first_answer(t.config, is_here(t, guest), readable, writable.len());
+    if first != model::OK {
+        return &readable[0..0];
+    }
+    let found = table::lookup(t, guest, wire::le64(readable, 8));
+    let last = last_answer(t.config, found, readable, writable.len());
+    if last != model::OK {
         return &readable[0..0];
     }
     request::part(readable, field)
