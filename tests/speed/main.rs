@@ -373,6 +373,22 @@ fn check(t: &Table, requests: &[Request], random: &mut Random) -> [usize; 22] {
 
 // ---- the measure
 
+// Two pages for a table. What a copy costs depends on where it is copied from, so both sides' tables stand at the same place, another each round.
+#[repr(C, align(4096))]
+struct Pages([u64; 1024]);
+
+impl Pages {
+    fn put<T: Copy>(&mut self, word: usize, t: &T) -> &T {
+        let room = &mut self.0[word..word + size_of::<T>() / 8];
+        let at = room.as_mut_ptr().cast::<T>();
+        // room has T's size, and T's alignment is that of its numbers, at most 8
+        unsafe {
+            at.write(*t);
+            &*at
+        }
+    }
+}
+
 fn quantile(v: &[f64], q: f64) -> f64 {
     let mut w = v.to_vec();
     w.sort_by(f64::total_cmp);
@@ -397,15 +413,19 @@ fn main() {
     }
 
     let mut times: [Vec<f64>; 3] = Default::default();
+    let mut pages = [Box::new(Pages([0; 1024])), Box::new(Pages([0; 1024]))];
     for round in 0..ROUNDS * millions {
+        let [first, second] = &mut pages;
+        let t = first.put(round * 41 % 512, &t);
+        let y = second.put(round * 41 % 512, &y);
         let mut sums = [0; 3];
         for k in 0..3 {
             let form = (round + k) % 3;
             let start = Instant::now();
             sums[form] = match form {
-                0 => form_library(black_box(&t), &mut requests, PASSES),
-                1 => form_yardstick(black_box(&y), &mut requests, PASSES),
-                _ => form_reference(black_box(&y), &mut requests, PASSES),
+                0 => form_library(black_box(t), &mut requests, PASSES),
+                1 => form_yardstick(black_box(y), &mut requests, PASSES),
+                _ => form_reference(black_box(y), &mut requests, PASSES),
             };
             times[form].push(start.elapsed().as_secs_f64() * 1e9 / (PASSES * REQUESTS) as f64);
         }
