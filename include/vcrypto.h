@@ -123,7 +123,8 @@ struct vcrypto_reply vcrypto_control(struct vcrypto_table table, uint8_t guest, 
 struct vcrypto_admission vcrypto_admit(struct vcrypto_table table, uint8_t guest, const uint8_t *readable, size_t readable_len, uint8_t *writable,
                                        size_t writable_len);
 
-/* Where the IV, the source and the AAD of a data request lie in its readable bytes; empty where it is refused or has none. They write nothing. */
+/* Where the IV, the source and the AAD of a data request lie in its readable bytes; empty where it is refused or has none. They write nothing.
+ * Of an AEAD decryption the source is ciphertext followed by tag, and the destination is shorter by the tag; of an encryption it is longer by the tag. */
 struct vcrypto_span vcrypto_iv(struct vcrypto_table table, uint8_t guest, const uint8_t *readable, size_t readable_len, const uint8_t *writable,
                                size_t writable_len);
 struct vcrypto_span vcrypto_source(struct vcrypto_table table, uint8_t guest, const uint8_t *readable, size_t readable_len, const uint8_t *writable,

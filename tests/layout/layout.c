@@ -102,7 +102,6 @@ static void control_requests(void)
     /* 001's fixed part of a hash ends before the kernel's padding */
     LIST(createPart, sizeof(struct virtio_crypto_sym_create_session_req), offsetof(struct virtio_crypto_hash_session_para, padding),
          sizeof(struct virtio_crypto_mac_session_para), sizeof(struct virtio_crypto_aead_session_para));
-    LIST(directionOk, VIRTIO_CRYPTO_OP_ENCRYPT, VIRTIO_CRYPTO_OP_DECRYPT);
 
     /* so does that of a destroy */
     FIELD(controlAct, part, virtio_crypto_destroy_session_req, session_id);
@@ -161,6 +160,8 @@ static void numbers(void)
     LIST(hash, VIRTIO_CRYPTO_SERVICE_HASH);
     LIST(mac, VIRTIO_CRYPTO_SERVICE_MAC);
     LIST(aead, VIRTIO_CRYPTO_SERVICE_AEAD);
+    LIST(encrypt, VIRTIO_CRYPTO_OP_ENCRYPT);
+    LIST(decrypt, VIRTIO_CRYPTO_OP_DECRYPT);
 
     LIST(opcodeOk, VIRTIO_CRYPTO_CIPHER_CREATE_SESSION, VIRTIO_CRYPTO_CIPHER_DESTROY_SESSION, VIRTIO_CRYPTO_HASH_CREATE_SESSION,
          VIRTIO_CRYPTO_HASH_DESTROY_SESSION, VIRTIO_CRYPTO_MAC_CREATE_SESSION, VIRTIO_CRYPTO_MAC_DESTROY_SESSION, VIRTIO_CRYPTO_AEAD_CREATE_SESSION,

@@ -11,7 +11,7 @@ use Rattle.lists.specs.Sum.{sumTo}
 use Rattle.model.specs.declared.Table.{Table}
 use Rattle.model.specs.Bytes.{le, le32, le64, part, padded}
 use Rattle.model.specs.Answer.{firstFail, controlOutcome, dataOutcome, controlBytes, dataBytes}
-use Rattle.model.specs.Algorithm.{known, keyOk, resultOk, ivOk, sourceOk, writtenLen}
+use Rattle.model.specs.Algorithm.{known, keyOk, resultOk, ivOk, sourceOk, decryptedOk, writtenOk}
 use Rattle.model.specs.declared.Field.the-variants.{Iv, Source, Aad}
 use Rattle.model.specs.declared.Session.{Session}
 use Rattle.model.specs.Session.{storeSize, lastNumber, World, Place, free, holding, slotOf, slotsOf, newGuest, guestAt, area, zeros, keyStart, keyArea, areaOf, keyLen, keyOf, bit, offers, directionOk, lengthsOk, accepts}
@@ -323,9 +323,9 @@ abbrev ran : World → List Request → World
 ran w [] = w
 ran w (q ∷ qs) = ran (next w 0 q) qs
 
--- IV 7, source 2, AAD 3, destination 10, tag 8
+-- IV 7, source 10, AAD 3, destination 2, tag 8
 abbrev ccm : List ℕ
-ccm = start 769 3 1 ++ le 4 7 ++ le 4 3 ++ le 4 2 ++ le 4 10 ++ le 4 8 ++ le 4 0 ++ replicate 7 1 ++ replicate 2 2 ++ replicate 3 3
+ccm = start 769 3 1 ++ le 4 7 ++ le 4 3 ++ le 4 10 ++ le 4 2 ++ le 4 8 ++ le 4 0 ++ replicate 7 1 ++ replicate 10 2 ++ replicate 3 3
 
 abbrev requests : List Fact
 requests =
@@ -339,13 +339,11 @@ requests =
     ∷ (sending (hashData 512 2 100 9) 10, 1)
     ∷ (sending (hashData 256 4 0 20) 21, 0)
     ∷ (sending (hashData 256 4 0 19) 20, 1)
-    ∷ (sending (aeadData 769 3 13 3 2 10 8) 11, 0)
-    ∷ (sending (aeadData 769 3 6 3 2 10 8) 11, 1)
-    ∷ (sending (aeadData 769 3 14 3 2 10 8) 11, 1)
-    ∷ (sending (aeadData 769 3 7 4 2 10 8) 11, 1)
-    ∷ (sending (aeadData 769 3 7 3 2 9 7) 10, 1)
-    ∷ (sending (aeadData 769 3 7 3 2 2 8) 3, 1)
-    ∷ (sending (aeadData 769 3 7 3 0 8 8) 9, 0)
+    ∷ (sending (aeadData 769 3 13 3 10 2 8) 3, 0)
+    ∷ (sending (aeadData 769 3 6 3 10 2 8) 3, 1)
+    ∷ (sending (aeadData 769 3 14 3 10 2 8) 3, 1)
+    ∷ (sending (aeadData 769 3 7 4 10 2 8) 3, 1)
+    ∷ (sending (aeadData 769 3 7 3 10 3 7) 4, 1)
     ∷ (sending (cipherData 1 5 16 16 16) 17, 0)
     ∷ (sending (cipherData 1 5 16 15 15) 16, 1)
     ∷ (sending (cipherData 0 6 8 24 24) 25, 0)
@@ -354,14 +352,22 @@ requests =
     ∷ (sending (cipherData 0 7 16 32 32) 33, 1)
     ∷ (sending (cipherData 0 7 0 8 8) 9, 1)
     -- exact buffers, on either side
-    ∷ (sending ccm 11, 0)
-    ∷ (sending ccm 10, 1)
-    ∷ (sending ccm 12, 1)
-    ∷ (sending (ccm ++ 0 ∷ []) 11, 1)
-    ∷ (sending (take 59 ccm) 11, 1)
+    ∷ (sending ccm 3, 0)
+    ∷ (sending ccm 2, 1)
+    ∷ (sending ccm 4, 1)
+    ∷ (sending (ccm ++ 0 ∷ []) 3, 1)
+    ∷ (sending (take 67 ccm) 3, 1)
+    -- K4, tag 8: source equal to the tag, one byte less, none; the destination a byte off, equal to the source, and source plus tag
+    ∷ (sending (aeadData 769 3 7 3 8 0 8) 1, 0)
+    ∷ (sending (aeadData 769 3 7 3 7 0 8) 1, 1)
+    ∷ (sending (aeadData 769 3 7 3 0 0 8) 1, 1)
+    ∷ (sending (aeadData 769 3 7 3 10 1 8) 2, 1)
+    ∷ (sending (aeadData 769 3 7 3 10 3 8) 4, 1)
+    ∷ (sending (aeadData 769 3 7 3 10 10 8) 11, 1)
+    ∷ (sending (aeadData 769 3 7 3 10 18 8) 19, 1)
     -- in order: writable, header, opcode, flag 0 and 2, session, service, direction, fixed part, op_type
     ∷ (Admit [] [], 17)
-    ∷ (sending (take 23 ccm) 11, 1)
+    ∷ (sending (take 23 ccm) 3, 1)
     ∷ (sending (start 2 1 0) 11, 3)
     ∷ (sending (start 1024 1 0) 11, 3)
     ∷ (sending (start 257 4 1) 11, 3)
@@ -375,7 +381,7 @@ requests =
     ∷ (sending (start 0 1 1 ++ replicate 48 0) 11, 3)
     ∷ (sending (set (cipherData 0 1 16 5 5) 64 2) 6, 3)
     -- the header's algo and padding are ignored
-    ∷ (sending (set (set ccm 4 77) 20 88) 11, 0)
+    ∷ (sending (set (set ccm 4 77) 20 88) 3, 0)
     -- a destroy of a live session has 24 readable bytes
     ∷ (ending 259 4, 0)
     ∷ (Control (destroySession 259 4 ++ 0 ∷ []) (0 ∷ []), 1)
@@ -396,19 +402,23 @@ requests =
     ∷ []
     )
     -- what is named, written and handed on
-    ++ names 0 (sending ccm 11) 0 3 769
-    ∷ names 0 (sending ccm 10) 0 0 0
-    ∷ writes 0 (Admit ccm (replicate 11 9)) (replicate 11 9)
-    ∷ writes 0 (Admit ccm (replicate 10 9)) (replicate 9 9 ++ 1 ∷ [])
+    ++ names 0 (sending ccm 3) 0 3 769
+    ∷ names 0 (sending ccm 2) 0 0 0
+    ∷ writes 0 (Admit ccm (replicate 3 9)) (replicate 3 9)
+    ∷ writes 0 (Admit ccm (replicate 2 9)) (9 ∷ 1 ∷ [])
+    ∷ writes 0 (Admit (aeadData 769 3 7 3 8 0 8) (9 ∷ [])) (9 ∷ [])
+    ∷ writes 0 (Admit (aeadData 769 3 7 3 7 0 8) (9 ∷ [])) (1 ∷ [])
     ∷ writes 0 (Admit (start 0 9 1) (replicate 2 9)) (9 ∷ 4 ∷ [])
-    ∷ writes 8 (Admit ccm (replicate 11 9)) (replicate 11 9)
+    ∷ writes 8 (Admit ccm (replicate 3 9)) (replicate 3 9)
     ∷ writes 0 (Finish 768 2 (7 ∷ 7 ∷ [])) (7 ∷ 1 ∷ [])
     ∷ writes 0 (Finish 769 2 (7 ∷ 7 ∷ [])) (7 ∷ 2 ∷ [])
     ∷ writes 1 (Finish 769 2 (7 ∷ 7 ∷ [])) (7 ∷ 7 ∷ [])
-    ∷ hands 0 (Part Iv ccm (replicate 11 9)) (replicate 7 1)
-    ∷ hands 0 (Part Source ccm (replicate 11 9)) (replicate 2 2)
-    ∷ hands 0 (Part Aad ccm (replicate 11 9)) (replicate 3 3)
-    ∷ hands 0 (Part Aad ccm (replicate 10 9)) []
+    ∷ hands 0 (Part Iv ccm (replicate 3 9)) (replicate 7 1)
+    ∷ hands 0 (Part Source ccm (replicate 3 9)) (replicate 10 2)
+    ∷ hands 0 (Part Source (aeadData 769 3 7 3 8 0 8) (9 ∷ [])) (replicate 8 5)
+    ∷ hands 0 (Part Source (aeadData 769 3 7 3 7 0 8) (9 ∷ [])) []
+    ∷ hands 0 (Part Aad ccm (replicate 3 9)) (replicate 3 3)
+    ∷ hands 0 (Part Aad ccm (replicate 2 9)) []
     ∷ hands 0 (Part Iv (hashData 256 4 9 20) (replicate 21 9)) []
     ∷ hands 0 (Part Source (hashData 256 4 9 20) (replicate 21 9)) (replicate 9 5)
     ∷ hands 0 (Key 2) (replicate 16 7)
@@ -421,10 +431,10 @@ requests =
     -- another guest finds none of them, and an attach of it changes nothing
     ∷ then 1 (Attach 1) (answers 1 (KeyAnswer 1) 4)
     ∷ then 1 (Attach 1) (answers 1 (ending 259 4) 1)
-    ∷ then 1 (Attach 1) (answers 1 (sending ccm 11) 4)
-    ∷ then 1 (Attach 1) (answers 0 (sending ccm 11) 0)
-    ∷ answers 8 (sending ccm 11) 16
-    ∷ answers 255 (sending ccm 11) 16
+    ∷ then 1 (Attach 1) (answers 1 (sending ccm 3) 4)
+    ∷ then 1 (Attach 1) (answers 0 (sending ccm 3) 0)
+    ∷ answers 8 (sending ccm 3) 16
+    ∷ answers 255 (sending ccm 3) 16
     ∷ answers 8 (KeyAnswer 1) 16
     ∷ answers 9 (Finish 0 0 (7 ∷ [])) 16
     ∷ []
@@ -509,8 +519,17 @@ byHand =
     ∷ with3 (aSession 3 1 1 16 16 0) (answers 0 (sending (aeadData 768 3 12 0 5 21 16) 22) 0)
     ∷ with3 (aSession 3 1 1 16 16 0) (answers 0 (sending (aeadData 768 3 11 0 5 21 16) 22) 1)
     ∷ with3 (aSession 3 1 1 16 16 0) (answers 0 (sending (aeadData 768 3 13 0 5 21 16) 22) 1)
-    ∷ with3 (aSession 3 3 2 32 16 2) (answers 0 (sending (aeadData 769 3 12 2 5 21 16) 22) 0)
-    ∷ with3 (aSession 3 3 2 32 16 2) (answers 0 (sending (aeadData 769 3 13 2 5 21 16) 22) 1)
+    ∷ with3 (aSession 3 3 2 32 16 2) (answers 0 (sending (aeadData 769 3 12 2 21 5 16) 6) 0)
+    ∷ with3 (aSession 3 3 2 32 16 2) (answers 0 (sending (aeadData 769 3 13 2 21 5 16) 6) 1)
+    -- K4 for both, tags 4 and 16: source equal to the tag, and one byte less
+    ∷ with3 (aSession 3 1 2 16 4 0) (answers 0 (sending (aeadData 769 3 12 0 4 0 4) 1) 0)
+    ∷ with3 (aSession 3 1 2 16 4 0) (answers 0 (sending (aeadData 769 3 12 0 3 0 4) 1) 1)
+    ∷ with3 (aSession 3 3 2 32 16 2) (answers 0 (sending (aeadData 769 3 12 2 16 0 16) 1) 0)
+    ∷ with3 (aSession 3 3 2 32 16 2) (answers 0 (sending (aeadData 769 3 12 2 15 0 16) 1) 1)
+    -- encryption stays: an empty source writes its tag, and no destination is shorter than the source
+    ∷ with3 (aSession 3 1 1 16 16 0) (answers 0 (sending (aeadData 768 3 12 0 0 16 16) 17) 0)
+    ∷ with3 (aSession 3 1 1 16 16 0) (answers 0 (sending (aeadData 768 3 12 0 16 0 16) 1) 1)
+    ∷ with3 (aSession 3 1 1 16 16 0) (answers 0 (sending (aeadData 768 3 12 0 21 5 16) 6) 1)
     -- hash not offered: its sessions match nothing, and the others do
     ∷ offering (offerWith 8 13) (answers 0 (KeyAnswer 4) 4)
     ∷ offering (offerWith 8 13) (answers 0 (KeyAnswer 3) 0)
@@ -534,8 +553,8 @@ byHand =
     -- a size limit of 30: what is read and written in sum
     ∷ offering (take 48 offer ++ le 8 30) (answers 0 (sending (hashData 256 4 10 20) 21) 0)
     ∷ offering (take 48 offer ++ le 8 30) (answers 0 (sending (hashData 256 4 11 20) 21) 1)
-    ∷ offering (take 48 offer ++ le 8 22) (answers 0 (sending ccm 11) 0)
-    ∷ offering (take 48 offer ++ le 8 21) (answers 0 (sending ccm 11) 1)
+    ∷ offering (take 48 offer ++ le 8 22) (answers 0 (sending ccm 3) 0)
+    ∷ offering (take 48 offer ++ le 8 21) (answers 0 (sending ccm 3) 1)
     ∷ []
 
 -- ---- that the bounds of demand 3 are reached
@@ -586,5 +605,5 @@ pub facts :
     ++ failing 400 attached crowd
     ++ failing 500 contended contest
     ≡ []
-unfolding le le32 le64 part padded firstFail controlOutcome dataOutcome controlBytes dataBytes known keyOk resultOk ivOk sourceOk writtenLen slotOf slotsOf newGuest keyStart keyArea areaOf keyLen keyOf bit offers directionOk lengthsOk accepts present find noRoom full withSlot without withGuest restarted numbered tableAfter storeAfter withArea wipe configOf onlyBits configOk sharesOk setUpAnswer freshTable setUp opcodeOk asked newEntry controlChecks operationOk lengths fits partOf status checksOf outcome checks act reply next sumTo
+unfolding le le32 le64 part padded firstFail controlOutcome dataOutcome controlBytes dataBytes known keyOk resultOk ivOk sourceOk decryptedOk writtenOk slotOf slotsOf newGuest keyStart keyArea areaOf keyLen keyOf bit offers directionOk lengthsOk accepts present find noRoom full withSlot without withGuest restarted numbered tableAfter storeAfter withArea wipe configOf onlyBits configOk sharesOk setUpAnswer freshTable setUp opcodeOk asked newEntry controlChecks operationOk lengths fits partOf status checksOf outcome checks act reply next sumTo
 facts = refl

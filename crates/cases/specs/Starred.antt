@@ -9,7 +9,7 @@ use lib.ListN.{length, replicate, take}
 use Rattle.lists.specs.Sum.{sumTo}
 use Rattle.model.specs.Bytes.{le, le32, le64, part, padded}
 use Rattle.model.specs.Answer.{firstFail, controlOutcome, dataOutcome, controlBytes, dataBytes}
-use Rattle.model.specs.Algorithm.{known, keyOk, resultOk, ivOk, sourceOk, writtenLen}
+use Rattle.model.specs.Algorithm.{known, keyOk, resultOk, ivOk, sourceOk, decryptedOk, writtenOk}
 use Rattle.model.specs.Session.{World, slotOf, slotsOf, newGuest, keyStart, keyArea, areaOf, keyLen, keyOf, bit, offers, directionOk, lengthsOk, accepts}
 use Rattle.model.specs.View.{present, find, noRoom, full}
 use Rattle.model.specs.Act.{withSlot, without, withGuest, restarted, numbered, tableAfter, storeAfter, withArea, wipe}
@@ -73,5 +73,5 @@ burst n = (Attach 1, 0, 0) ∷ replicate n (asking (hashCreate 4 32), 24, 0) ++ 
 
 -- reserves 8 and caps 128: 72 are granted; reserves 16: 16 are
 pub starred : right (world 8 32) edges && right (world 8 128) (burst 72) && right (world 16 128) (burst 16) ≡ true
-unfolding le le32 le64 part padded firstFail controlOutcome dataOutcome controlBytes dataBytes known keyOk resultOk ivOk sourceOk writtenLen slotOf slotsOf newGuest keyStart keyArea areaOf keyLen keyOf bit offers directionOk lengthsOk accepts present find noRoom full withSlot without withGuest restarted numbered tableAfter storeAfter withArea wipe configOf onlyBits configOk sharesOk setUpAnswer freshTable setUp opcodeOk asked newEntry controlChecks operationOk lengths fits partOf status checksOf outcome checks act reply next sumTo
+unfolding le le32 le64 part padded firstFail controlOutcome dataOutcome controlBytes dataBytes known keyOk resultOk ivOk sourceOk decryptedOk writtenOk slotOf slotsOf newGuest keyStart keyArea areaOf keyLen keyOf bit offers directionOk lengthsOk accepts present find noRoom full withSlot without withGuest restarted numbered tableAfter storeAfter withArea wipe configOf onlyBits configOk sharesOk setUpAnswer freshTable setUp opcodeOk asked newEntry controlChecks operationOk lengths fits partOf status checksOf outcome checks act reply next sumTo
 starred = refl

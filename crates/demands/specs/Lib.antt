@@ -2,6 +2,7 @@ pub mod Statement
 pub mod Demand1
 pub mod Demand2
 pub mod Outcomes
+pub mod Aead
 pub mod Checks
 pub mod Instance
 pub mod Start

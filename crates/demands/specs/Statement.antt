@@ -153,6 +153,15 @@ pub record Acceptable (t : Table) (g : ℕ) (r b : List ℕ) : Type 0 where
   -- and the algorithm
   pub algorithm : fits (named t g r .session) (lengths r) ≡ true
 
+-- ---- ticket K4: the lengths of an AEAD request that is accepted, by its source and its tag
+
+pub record AeadLengths (w : World) (g : ℕ) (r b : List ℕ) : Type 0 where
+  -- "for decryption the source is ciphertext followed by tag, at least the tag's length, and the destination is source minus tag"; then the status
+  pub tagged : opcode r ≡ 769 → reply w g (Admit r b) .answer ≡ ok → lengths r .result ≤ lengths r .source
+  pub decrypted : opcode r ≡ 769 → reply w g (Admit r b) .answer ≡ ok → length b ≡ lengths r .source - lengths r .result + 1
+  -- for encryption the destination is source plus tag
+  pub encrypted : opcode r ≡ 768 → reply w g (Admit r b) .answer ≡ ok → length b ≡ lengths r .source + lengths r .result + 1
+
 -- ---- demand 3: one claim about the whole list of calls
 
 -- each well-formed create of guest g comes while it holds fewer than its reserve

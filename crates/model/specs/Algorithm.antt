@@ -1,8 +1,9 @@
--- Paper 01, "Rules per algorithm". Algorithm and service numbers are document 001's.
-use Prim.Native.Nat.{ℕ, _+_}
+-- Paper 01, "Rules per algorithm", with ticket K4. The numbers of services, directions and algorithms are document 001's.
+use Prim.Native.Nat.{ℕ, _+_, _-_}
 use mathlib.Core.List.{List, [], _∷_}
-use mathlib.Core.Bool.{Bool, false, cond, _&&_, _||_}
-use lib.Dec.{eqb}
+use mathlib.Core.Bool.{Bool, false, _&&_, _||_}
+use lib.Dec.{eqb, leb}
+use Rattle.model.specs.declared.Lengths.{Lengths}
 use Rattle.model.specs.Lens.{Lens, oneOf, span, multiple, atLeast, any, Rule, orIn, ruled}
 
 -- ---- the services
@@ -18,6 +19,14 @@ mac = 2
 
 abbrev pub aead : ℕ
 aead = 3
+
+-- ---- the directions of a cipher or AEAD
+
+abbrev pub encrypt : ℕ
+encrypt = 1
+
+abbrev pub decrypt : ℕ
+decrypt = 2
 
 -- ---- the algorithms of each service
 
@@ -115,7 +124,15 @@ ivOk service algo n =
 unfoldable pub sourceOk : ℕ → ℕ → ℕ → Bool
 sourceOk service algo n = eqb service cipher && ruled cipherSources algo n || eqb service hash || eqb service mac || eqb service aead
 
--- the bytes written before the status: of a cipher "Destination equals source", of an AEAD "source plus tag, for either direction"; a hash or MAC
--- writes its result
-unfoldable pub writtenLen : ℕ → ℕ → ℕ → ℕ
-writtenLen service source result = cond (eqb service cipher) source (cond (eqb service aead) (source + result) result)
+-- the lengths of an AEAD decryption, by K4: "the source is ciphertext followed by tag, at least the tag's length, and the destination is source minus tag"
+unfoldable pub decryptedOk : Lengths → Bool
+decryptedOk n = leb (n .result) (n .source) && eqb (n .written) (n .source - n .result)
+
+-- what is written before the status: of a cipher "Destination equals source"; a hash or MAC writes its result; of an AEAD that encrypts "Destination
+-- equals source plus tag"
+unfoldable pub writtenOk : ℕ → ℕ → Lengths → Bool
+writtenOk service direction n =
+    eqb service cipher && eqb (n .written) (n .source)
+    || (eqb service hash || eqb service mac) && eqb (n .written) (n .result)
+    || eqb service aead && eqb direction encrypt && eqb (n .written) (n .source + n .result)
+    || eqb service aead && eqb direction decrypt && decryptedOk n

@@ -10,7 +10,7 @@ use Rattle.model.specs.declared.Session.{Session}
 use Rattle.model.specs.declared.Slot.{Slot}
 use Rattle.model.specs.declared.Table.{Table}
 use Rattle.model.specs.Bytes.{part, padded}
-use Rattle.model.specs.Algorithm.{cipher, hash, mac, aead, known, keyOk, resultOk}
+use Rattle.model.specs.Algorithm.{cipher, hash, mac, aead, encrypt, decrypt, known, keyOk, resultOk}
 
 -- "A table holds 128 slots and eight guest records." "Slot s owns key bytes 128·s to 128·s+127"
 abbrev pub slotCount : ℕ
@@ -138,9 +138,8 @@ offers k service algo = known service algo && bit (k .services) service && bit (
 abbrev pub directed : ℕ → Bool
 directed service = eqb service cipher || eqb service aead
 
--- 1 encrypt, 2 decrypt
 unfoldable pub directionOk : Session → Bool
-directionOk x = not (directed (x .service)) || eqb (x .direction) 1 || eqb (x .direction) 2
+directionOk x = not (directed (x .service)) || eqb (x .direction) encrypt || eqb (x .direction) decrypt
 
 -- "Cipher and AEAD keys obey max_cipher_key_len too, MAC keys max_auth_key_len"
 abbrev pub keyLimit : Config → ℕ → ℕ

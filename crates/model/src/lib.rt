@@ -34,6 +34,11 @@ pub const MAC: u32 = 2;
 
 pub const AEAD: u32 = 3;
 
+// The directions of a cipher or AEAD.
+pub const ENCRYPT: u32 = 1;
+
+pub const DECRYPT: u32 = 2;
+
 // The last session number of a guest.
 pub const LAST_NUMBER: u64 = 4294967295;
 

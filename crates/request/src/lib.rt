@@ -455,7 +455,7 @@ fn fits_session(x: model::Session, n: model::Lengths) -> bool
 {
     rules::iv_ok(x.service, x.algo, n.iv)
         & rules::source_ok(x.service, x.algo, n.source)
-        & (n.written as u64 == rules::written_len(x.service, n.source, n.result))
+        & rules::written_ok(x.service, x.direction, n)
         & (!(x.service == model::AEAD) | (n.aad == x.aad))
         & ((x.service == model::CIPHER) | (n.result == x.result))
 }

@@ -4,7 +4,7 @@ ghost use mathlib.Core.Bool.{false};
 ghost use Prim.Native.Nat.{_≤_};
 ghost use Rattle.model.specs.Lens.{orIn, ruled};
 ghost use Rattle.model.specs.Algorithm.{ciphers, hashes, macs, aeads, cipherKeys, cipherIvs, cipherSources, hashResults, macKeys, cmacResults, aeadKeys, aeadIvs, aeadTags};
-ghost use Rattle.model.specs.Algorithm.{known, keyOk, resultOk, ivOk, sourceOk, writtenLen};
+ghost use Rattle.model.specs.Algorithm.{known, keyOk, resultOk, ivOk, sourceOk, decryptedOk, writtenOk};
 ghost use Rattle.model.specs.Session.{bit, maskOf, offers, directionOk, keyLimit, lengthsOk, accepts};
 ghost use Rattle.model.specs.Setup.{configOk, sharesOk};
 
@@ -166,17 +166,25 @@ pub fn source_ok(service: u32, algo: u32, n: u32) -> bool
         | (service == model::AEAD)
 }
 
-// The bytes written before the status; a sum of two lengths, so 64 bits.
-pub fn written_len(service: u32, source: u32, result: u32) -> u64
-    ensures { λ r. ⌜ r ≡ writtenLen service source result ⌝ }
+// An AEAD decryption: the source is ciphertext followed by tag.
+fn decrypted_ok(n: model::Lengths) -> bool
+    ensures { λ r. ⌜ r ≡ decryptedOk n ⌝ }
 {
-    if service == model::CIPHER {
-        return source as u64;
+    if n.source < n.result {
+        return false;
     }
-    if service == model::AEAD {
-        return source as u64 + result as u64;
-    }
-    result as u64
+    n.written == n.source - n.result
+}
+
+// What is written before the status; a sum of two lengths, so 64 bits.
+pub fn written_ok(service: u32, direction: u32, n: model::Lengths) -> bool
+    ensures { λ r. ⌜ r ≡ writtenOk service direction n ⌝ }
+{
+    let sum = n.source as u64 + n.result as u64;
+    (service == model::CIPHER) & (n.written == n.source)
+        | ((service == model::HASH) | (service == model::MAC)) & (n.written == n.result)
+        | (service == model::AEAD) & (direction == model::ENCRYPT) & (n.written as u64 == sum)
+        | (service == model::AEAD) & (direction == model::DECRYPT) & decrypted_ok(n)
 }
 
 // Bit n of a mask.
@@ -212,13 +220,13 @@ pub fn is_offered(k: model::Config, service: u32, algo: u32) -> bool
     is_known(service, algo) & has_bit(k.services, service) & has_bit(mask_of(k, service), algo)
 }
 
-// A cipher or AEAD encrypts (1) or decrypts (2).
+// A cipher or AEAD encrypts or decrypts.
 pub fn direction_ok(x: model::Session) -> bool
     ensures { λ r. ⌜ r ≡ directionOk x ⌝ }
 {
     !((x.service == model::CIPHER) | (x.service == model::AEAD))
-        | (x.direction == 1)
-        | (x.direction == 2)
+        | (x.direction == model::ENCRYPT)
+        | (x.direction == model::DECRYPT)
 }
 
 // The configuration's limit on a key of this service.

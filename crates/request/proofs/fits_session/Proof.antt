@@ -6,7 +6,9 @@ use Rattle.request.proofs.fits_session.Tie as tie
 
 returns : tie.Need-returns
 unfolding fits
-returns c = rw (c .before .before .before .before .before .before .before .before .before .iv-ok .ensures, c .before .before .before .before .before .before .before .before .source-ok .ensures, c .before .before .before .before .before .before .written-len .ensures)
+returns c =
+    let at = c .before .before .before .before .before .before in
+    rw (at .before .before .iv-ok .ensures, at .before .source-ok .ensures, at .written-ok .ensures)
 
 pub fits-session-spec : {M : Type 1} → statement M
 fits-session-spec =
@@ -14,6 +16,5 @@ fits-session-spec =
     (tie.spec
     (λ c κs. search needs)
     (λ c κs. search needs)
-    (λ c. search needs)
     (λ c κs. search needs)
     returns)
