@@ -1,5 +1,5 @@
 #!/usr/bin/env python3
-"""Writes the traces of this folder and, beside each, what replay must print: every answer is given here, by hand, from paper 01."""
+"""Writes the traces of this folder and, beside each, what replay must print: every answer is given here, by hand, from the papers."""
 import pathlib
 import struct
 
@@ -78,8 +78,16 @@ def hash_data(number, source, result=32):
     return header(0x100, number) + words(source, result) + bytes(source)
 
 
-def gcm_data(number, source, iv=12, aad=20, tag=16):
-    return header(0x300, number) + words(iv, aad, source, source + tag, tag, 0) + bytes(iv + source + aad)
+def aead_data(opcode, number, source, destination, iv, aad, tag):
+    return header(opcode, number) + words(iv, aad, source, destination, tag, 0) + bytes(iv + source + aad)
+
+
+def gcm_data(number, source, aad=20):
+    return aead_data(0x300, number, source, source + 16, 12, aad, 16)
+
+
+def gcm_decrypt(number, source, destination):
+    return aead_data(0x301, number, source, destination, 12, 20, 16)
 
 
 # ---- the traces
@@ -186,6 +194,24 @@ for name, source, answer in [("largest", 2254, 0), ("too-large", 2255, 1)]:
     t.control(0, gcm_create(bytes(16), aad=61000), 0)
     t.data(0, gcm_data(1, source, aad=61000), source + 17, answer)
     t.write(name)
+
+# ticket K4: a decryption reads ciphertext and tag, and writes what the source has more than the tag; an encryption writes its tag
+t = Trace()
+t.attach(0, 0)
+t.control(0, gcm_create(bytes(16), direction=DECRYPT), 0)
+t.control(0, gcm_create(bytes(16), direction=ENCRYPT), 0)
+t.data(0, gcm_decrypt(1, 116, 100), 101, 0)
+t.data(0, gcm_decrypt(1, 16, 0), 1, 0)
+t.data(0, gcm_decrypt(1, 15, 0), 1, 1)
+t.data(0, gcm_decrypt(1, 0, 0), 1, 1)
+t.data(0, gcm_decrypt(1, 116, 99), 100, 1)
+t.data(0, gcm_decrypt(1, 116, 116), 117, 1)
+t.data(0, gcm_decrypt(1, 100, 116), 117, 1)
+t.data(0, gcm_decrypt(2, 116, 100), 101, 4)
+t.data(0, gcm_data(2, 100), 117, 0)
+t.data(0, gcm_data(2, 0), 17, 0)
+t.data(0, aead_data(0x300, 2, 116, 100, 12, 20, 16), 101, 1)
+t.write("decryption")
 
 # ---- bad ones
 

@@ -203,8 +203,8 @@ struct Asked {
 
 impl Asked {
     /// Each length has 32 bits on the wire; what else follows from a damaged one follows it.
-    fn damage(&mut self, rng: &mut Rng, service: Service) {
-        match rng.below(9) {
+    fn damage(&mut self, rng: &mut Rng, service: Service, decrypts: bool) {
+        match rng.below(if service == Aead { 12 } else { 9 }) {
             0 => self.iv = rng.pick(&IVS),
             1 => {
                 let off = if rng.one_in(2) { 1 } else { u64::MAX };
@@ -219,17 +219,26 @@ impl Asked {
             5 => self.tag = rng.beside(self.tag) & LOW,
             6 => {
                 self.tag = rng.pick(&RESULTS);
-                self.written = written(service, self.source, self.tag);
+                self.written = written(service, decrypts, self.source, self.tag);
             }
             7 if self.iv > 0 => {
                 // The same sum, shared otherwise between IV and source.
                 self.iv -= 1;
                 self.source += 1;
             }
+            // The destination of the other direction.
+            9 => self.written = written(service, !decrypts, self.source, self.tag) & LOW,
+            10 | 11 => {
+                // Short of the tag, mostly by one: less the tag 0 if cut off there, LOW if wrapped.
+                self.source = self.tag.saturating_sub(rng.pick(&[1, 1, 1, 2, self.tag]));
+                let sum = self.source + self.tag & LOW;
+                self.written = rng.pick(&[0, 0, 1, LOW, self.source, sum]);
+            }
             _ => {
-                // Sums that are small again in 32 bits.
+                // Sums that are small again in 32 bits; less a tag, a destination stays large.
+                let large = decrypts && rng.one_in(2);
                 self.source = LOW - rng.below(20);
-                self.written = written(service, self.source, self.tag) & LOW;
+                self.written = written(service, large, self.source, self.tag) & LOW;
             }
         }
     }
@@ -265,14 +274,14 @@ pub fn data(rng: &mut Rng, table: &Table, session: &Session, damaged: bool) -> (
             3 => number = number.wrapping_add(1 << 32),
             4 => number = rng.beside(number),
             5 => op_type = rng.pick(&[0, 2, 3, 0x101, 0x1_0001]),
-            6..=14 => asked.damage(rng, service),
+            6..=14 => asked.damage(rng, service, decrypts),
             _ => {}
         }
     }
-    // Where a sum passes 32 bits, the buffers are as long as the sum in 32 bits.
+    // Where the sum read passes 32 bits, the readable bytes are as many as it is in 32 bits.
     let read = 24 + fixed as u64 + asked.iv + asked.source + asked.aad;
     let mut size = lent(rng, read & LOW, 24 + fixed).max(24 + fixed);
-    let mut writable = lent(rng, asked.written + 1 & LOW, 0);
+    let mut writable = lent(rng, (asked.written & LOW) + 1, 0);
     let mut bytes = rng.bytes(size);
     place(&mut bytes, 0, opcode);
     place_long(&mut bytes, 8, number);
@@ -309,7 +318,7 @@ fn right_lengths(rng: &mut Rng, table: &Table, session: &Session, rules: &Algori
     };
     let mut source = rng.length(rules.source, &SOURCES);
     let max = table.config.max_size;
-    let near = iv + aad + written(service, 0, tag);
+    let near = iv + aad + written(service, false, 0, tag);
     // Long requests are slow to make.
     let edge = max <= 600 && rng.one_in(2) || max <= 70_000 && rng.one_in(100);
     if edge && max >= near {
@@ -319,20 +328,26 @@ fn right_lengths(rng: &mut Rng, table: &Table, session: &Session, rules: &Algori
         };
         source = (max - near) / share / unit * unit + rng.pick(&[0, 0, unit]);
     }
+    let decrypts = session.direction == 2;
+    if service == Aead && decrypts {
+        // The tag is read rather than written, and the sum is the same.
+        source += tag;
+    }
     Asked {
         iv,
         source,
         aad,
-        written: written(service, source, tag),
+        written: written(service, decrypts, source, tag),
         tag,
     }
 }
 
-/// What a request writes, apart from the status.
-fn written(service: Service, source: u64, result: u64) -> u64 {
+/// What a request writes, apart from the status; 0 where a source is short of its tag.
+fn written(service: Service, decrypts: bool, source: u64, result: u64) -> u64 {
     match service {
         Cipher => source,
         Hash | Mac => result,
+        Aead if decrypts => source.saturating_sub(result),
         Aead => source + result,
     }
 }

@@ -302,9 +302,14 @@ impl Claimed {
             Cipher => self.written == self.source,
             Hash | Mac => self.written == kept,
             Aead => {
+                // Ticket K4: a decrypted source ends in the tag, an encrypted destination does.
+                let destination = match live.session.direction {
+                    2 => self.source.checked_sub(kept),
+                    _ => Some(self.source + kept),
+                };
                 self.tag == kept
                     && self.aad == live.session.aad.into()
-                    && self.written == self.source + kept
+                    && destination == Some(self.written)
             }
         };
         within

@@ -53,6 +53,7 @@ pub struct Algorithm {
     pub number: u64,
     pub key: Lengths,
     pub iv: Lengths,
+    /// For AEAD decryption the tag sets a least length too.
     pub source: Lengths,
     /// A hash or MAC result, or an AEAD tag.
     pub result: Lengths,

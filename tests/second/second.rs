@@ -1,5 +1,6 @@
 //! The second program: the rules of the crypto device once more, written from the papers alone.
-//! It follows the scope paper section by section; answers have the numbers of its first table.
+//! It follows the scope paper, as ticket K4 amends it, section by section; answers have the
+//! numbers of its first table.
 
 use crate::rules::Service::*;
 use crate::rules::{Algorithm, Service, ALGORITHMS};

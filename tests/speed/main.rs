@@ -212,11 +212,12 @@ fn good(s: &yard::Slot, random: &mut Random) -> Request {
         _ => 12,
     };
     let result = u32::from(s.result);
+    let destination = if s.direction == 2 { source - result } else { source + result }; // of an AEAD; no tag is above 16
     let opcode = u32::from(s.service) * 256 + u32::from(s.direction == 2);
     let mut r = words(&[opcode, 0, s.number as u32, (s.number >> 32) as u32, 1, 0]);
     let (part, more, written) = match s.service {
         0 => (vec![iv, source, source, 0, 0, 0, 0, 0, 0, 0, 1, 0], iv + source, source),
-        3 => (vec![iv, s.aad, source, source + result, result, 0], iv + source + s.aad, source + result),
+        3 => (vec![iv, s.aad, source, destination, result, 0], iv + source + s.aad, destination),
         _ => (vec![source, result], source, result),
     };
     r.extend(words(&part));

@@ -1,5 +1,5 @@
-// The yardstick: data admission and finish as one would write them in ordinary Rust, from paper 01 alone. The table is passed by value, as the
-// library's is; the forms that end in `_ref` take it by reference.
+// The yardstick: data admission and finish as one would write them in ordinary Rust, from paper 01 and ticket K4 alone. The table is passed by
+// value, as the library's is; the forms that end in `_ref` take it by reference.
 use std::slice::{from_raw_parts, from_raw_parts_mut};
 
 #[derive(Clone, Copy)]
@@ -206,13 +206,14 @@ fn judge(t: &Table, guest: u8, r: &[u8], room: usize) -> Result<(u64, u32), u8> 
     if r.len() as u64 != start as u64 + read || room as u64 != u64::from(n.written) + 1 {
         return Err(ERR);
     }
-    let written = match service {
-        CIPHER => u64::from(n.source),
-        AEAD => u64::from(n.source) + u64::from(n.result),
-        _ => u64::from(n.result),
+    let written = match (service, direction) {
+        (CIPHER, _) => Some(n.source),
+        (AEAD, 2) => n.source.checked_sub(n.result),
+        (AEAD, _) => n.source.checked_add(n.result),
+        _ => Some(n.result),
     };
     let same = (service == CIPHER || n.result == u32::from(s.result)) && (service != AEAD || n.aad == s.aad);
-    if u64::from(n.written) != written || !same || !lengths_ok(s, &n) {
+    if Some(n.written) != written || !same || !lengths_ok(s, &n) {
         return Err(ERR);
     }
     Ok((number, opcode))
