@@ -122,10 +122,10 @@ module _ (w : World) (g : ℕ) (r b : List ℕ) where
   here = present g (guestAt t g)
 
   -- the checks, where the search ended within the slots or behind them
-  abbrev checksBy : Bool → List Check
+  abbrev pub checksBy : Bool → List Check
   checksBy s = dataChecks (t .config) here (cond s (some (entryAt w at)) none) r (length b)
 
-  admit-checks : checks w g (Admit r b) ≡ checksBy (ltb at (length (slotsOf t)))
+  pub admit-checks : checks w g (Admit r b) ≡ checksBy (ltb at (length (slotsOf t)))
   unfolding checks checksOf find
   admit-checks = refl
 

@@ -2,15 +2,16 @@
 -- Assumes nothing.
 use mathlib.Core.Path.{_≡_}
 use mathlib.Core.Logic.{_⊎_}
-use mathlib.Core.Bool.{true, false}
+use mathlib.Core.Bool.{true, false, cond, _&&_}
 use mathlib.Core.List.{List, [], _∷_, _++_}
 use Prim.Native.Nat.{ℕ, suc, _+_, _-_, _≤_, _<_}
-use lib.ListN.{length, getD}
+use lib.Dec.{eqb, leb}
+use lib.ListN.{length, getD, take}
 use Rattle.model.specs.declared.Table.{Table}
 use Rattle.model.specs.Bytes.{le, le32}
 use Rattle.model.specs.Answer.{ok, err, badmsg, notsupp, invsess, nospc, badGuest, noOutcome, badStore, badFeature, badShares, badConfig, Check}
 use Rattle.model.specs.Lens.{orIn}
-use Rattle.model.specs.Algorithm.{cipher}
+use Rattle.model.specs.Algorithm.{cipher, aead, ivOk}
 use Rattle.model.specs.Session.{slotCount, lastNumber, World, Place, placeAt, guestAt, directed}
 use Rattle.model.specs.View.{live, liveAt, find, holds, total}
 use Rattle.model.specs.Setup.{configOf, freshTable, setUpChecks, setUpAnswer, setUp}
@@ -153,7 +154,7 @@ pub record Acceptable (t : Table) (g : ℕ) (r b : List ℕ) : Type 0 where
   -- and the algorithm
   pub algorithm : fits (named t g r .session) (lengths r) ≡ true
 
--- ---- ticket K4: the lengths of an AEAD request that is accepted, by its source and its tag
+-- ---- ticket K4: the lengths of an AEAD request, by its source and its tag
 
 pub record AeadLengths (w : World) (g : ℕ) (r b : List ℕ) : Type 0 where
   -- "for decryption the source is ciphertext followed by tag, at least the tag's length, and the destination is source minus tag"; then the status
@@ -161,6 +162,13 @@ pub record AeadLengths (w : World) (g : ℕ) (r b : List ℕ) : Type 0 where
   pub decrypted : opcode r ≡ 769 → reply w g (Admit r b) .answer ≡ ok → length b ≡ lengths r .source - lengths r .result + 1
   -- for encryption the destination is source plus tag
   pub encrypted : opcode r ≡ 768 → reply w g (Admit r b) .answer ≡ ok → length b ≡ lengths r .source + lengths r .result + 1
+  -- where the eleven checks before the length rules hold, and IV, AAD and tag are as the session asks: accepted exactly if the source is at least the tag and
+  -- the destination is source minus tag, else 1
+  pub decided : opcode r ≡ 769 → Passed (take 11 (checks w g (Admit r b)))
+      → ivOk aead (named (w .table) g r .session .algo) (lengths r .iv) ≡ true
+      → lengths r .aad ≡ named (w .table) g r .session .aad
+      → lengths r .result ≡ named (w .table) g r .session .result
+      → reply w g (Admit r b) .answer ≡ cond (leb (lengths r .result) (lengths r .source) && eqb (lengths r .written) (lengths r .source - lengths r .result)) ok err
 
 -- ---- demand 3: one claim about the whole list of calls
 
