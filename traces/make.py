@@ -187,13 +187,13 @@ for g in range(4, 8):
         t.control(g, hash_create(), 0 if granted else 5)
 t.write("reserves")
 
-# AAD of 61,000 bytes, read and not written: IV, source, AAD, destination and tag are 65,536 in sum, and 65,538
-for name, source, answer in [("largest", 2254, 0), ("too-large", 2255, 1)]:
-    t = Trace()
-    t.attach(0, 0)
-    t.control(0, gcm_create(bytes(16), aad=61000), 0)
-    t.data(0, gcm_data(1, source, aad=61000), source + 17, answer)
-    t.write(name)
+# the largest request that a trace can carry, in one of 65,536 bytes: 4,096 writable bytes, and as much AAD as is left, which is read and not written;
+# IV, source, AAD and destination are 69,497 bytes in sum, which ticket K12 allows
+t = Trace()
+t.attach(0, 0)
+t.control(0, gcm_create(bytes(16), aad=61311), 0)
+t.data(0, gcm_data(1, 4079, aad=61311), 4096, 0)
+t.write("largest")
 
 # ticket K4: a decryption reads ciphertext and tag, and writes what the source has more than the tag; an encryption writes its tag
 t = Trace()

@@ -53,13 +53,18 @@ abbrev pub cipherData : ℕ → ℕ → ℕ → ℕ → ℕ → List ℕ
 cipherData op id iv source dest = start op id 1 ++ le 4 iv ++ le 4 source ++ le 4 dest ++ replicate 28 0 ++ le 4 1 ++ le 4 0 ++ replicate (iv + source) 5
 
 -- src_data_len, hash_result_len; then the source
+abbrev pub hashHead : ℕ → ℕ → ℕ → ℕ → List ℕ
+hashHead op id source result = start op id 1 ++ le 4 source ++ le 4 result
+
 abbrev pub hashData : ℕ → ℕ → ℕ → ℕ → List ℕ
-hashData op id source result = start op id 1 ++ le 4 source ++ le 4 result ++ replicate source 5
+hashData op id source result = hashHead op id source result ++ replicate source 5
 
 -- iv_len, aad_len, src_data_len, dst_data_len, tag_len, reserved; then IV, source and AAD
+abbrev pub aeadHead : ℕ → ℕ → ℕ → ℕ → ℕ → ℕ → ℕ → List ℕ
+aeadHead op id iv aad source dest tag = start op id 1 ++ le 4 iv ++ le 4 aad ++ le 4 source ++ le 4 dest ++ le 4 tag ++ le 4 0
+
 abbrev pub aeadData : ℕ → ℕ → ℕ → ℕ → ℕ → ℕ → ℕ → List ℕ
-aeadData op id iv aad source dest tag =
-    start op id 1 ++ le 4 iv ++ le 4 aad ++ le 4 source ++ le 4 dest ++ le 4 tag ++ le 4 0 ++ replicate (iv + source + aad) 5
+aeadData op id iv aad source dest tag = aeadHead op id iv aad source dest tag ++ replicate (iv + source + aad) 5
 
 -- ---- with writable bytes
 

@@ -11,7 +11,7 @@ use Rattle.lists.specs.Sum.{sumTo}
 use Rattle.model.specs.declared.Table.{Table}
 use Rattle.model.specs.Bytes.{le, le32, le64, part, padded}
 use Rattle.model.specs.Answer.{firstFail, controlOutcome, dataOutcome, controlBytes, dataBytes}
-use Rattle.model.specs.Algorithm.{known, keyOk, resultOk, ivOk, sourceOk, decryptedOk, writtenOk}
+use Rattle.model.specs.Algorithm.{known, keyOk, resultOk, ivOk, sourceOk, decryptedOk, writtenOk, payloadOk}
 use Rattle.model.specs.declared.Field.the-variants.{Iv, Source, Aad}
 use Rattle.model.specs.declared.Session.{Session}
 use Rattle.model.specs.Session.{storeSize, lastNumber, World, Place, free, holding, slotOf, slotsOf, newGuest, guestAt, area, zeros, keyStart, keyArea, areaOf, keyLen, keyOf, bit, offers, directionOk, lengthsOk, accepts}
@@ -136,7 +136,9 @@ setUps =
     ∷ (offerWith 44 1, 21)
     ∷ (offerWith 48 1, 21)
     ∷ (offerWith 52 1, 21)
-    ∷ (take 48 offer ++ le 8 65535, 0)
+    ∷ (take 48 offer ++ le 8 65537, 0)
+    ∷ (take 48 offer ++ le 8 1048575, 0)
+    ∷ (take 48 offer ++ le 8 18446744073709551615, 21)
     ∷ []
     )
     -- shares
@@ -491,12 +493,21 @@ byHand =
     ∷ guest0 8 8 7 (answers 0 longKey 0)
     ∷ guest0 7 7 7 (answers 0 longKey 5)
     ∷ guest0 3 3 7 (answers 0 longKey 5)
-    -- numbers left: one, none, and a last number out of range
-    ∷ guest0 8 32 4294967294 (answers 0 longKey 0)
-    ∷ guest0 8 32 4294967294 (writes 0 longKey (255 ∷ 255 ∷ 255 ∷ 255 ∷ replicate 12 0))
+    -- numbers left: one, and none
+    ∷ guest0 8 32 18446744073709551614 (answers 0 longKey 0)
+    ∷ guest0 8 32 18446744073709551614 (writes 0 longKey (replicate 8 255 ++ replicate 8 0))
+    ∷ guest0 8 32 18446744073709551614 (then 0 longKey (answers 0 longKey 1))
     ∷ guest0 8 32 lastNumber (answers 0 longKey 1)
-    ∷ guest0 8 32 5000000000 (answers 0 longKey 1)
+    ∷ guest0 8 32 lastNumber (writes 0 longKey (replicate 8 0 ++ 1 ∷ replicate 7 0))
     ∷ guest0 0 0 lastNumber (answers 0 longKey 1)
+    -- the session with the last number is live, and its attach starts again from 1
+    ∷ guest0 8 32 18446744073709551614 (then 0 longKey (hands 0 (Key lastNumber) (replicate 64 7)))
+    ∷ guest0 8 32 18446744073709551614 (then 0 longKey (answers 0 (sending (cipherData 0 lastNumber 16 16 16) 17) 0))
+    ∷ guest0 8 32 18446744073709551614 (then 0 longKey (then 0 (ending 3 lastNumber) (answers 0 (KeyAnswer lastNumber) 4)))
+    ∷ guest0 8 32 lastNumber (then 0 (Attach 1) (writes 0 longKey (1 ∷ replicate 15 0)))
+    -- numbers go on above 32 bits
+    ∷ guest0 8 32 4294967295 (writes 0 longKey (replicate 4 0 ++ 1 ∷ replicate 11 0))
+    ∷ guest0 8 32 4294967295 (then 0 longKey (answers 0 (KeyAnswer 4294967296) 0))
     -- fields that step 4 looks at: algorithm, direction, key, result, tag
     ∷ with3 (aSession 2 2 0 20 20 0) (answers 0 (KeyAnswer 3) 0)
     ∷ with3 (aSession 2 7 0 20 20 0) (answers 0 (KeyAnswer 3) 4)
@@ -605,5 +616,5 @@ pub facts :
     ++ failing 400 attached crowd
     ++ failing 500 contended contest
     ≡ []
-unfolding le le32 le64 part padded firstFail controlOutcome dataOutcome controlBytes dataBytes known keyOk resultOk ivOk sourceOk decryptedOk writtenOk slotOf slotsOf newGuest keyStart keyArea areaOf keyLen keyOf bit offers directionOk lengthsOk accepts present find noRoom full withSlot without withGuest restarted numbered tableAfter storeAfter withArea wipe configOf onlyBits configOk sharesOk setUpAnswer freshTable setUp opcodeOk asked newEntry controlChecks operationOk lengths fits partOf status checksOf outcome checks act reply next sumTo
+unfolding le le32 le64 part padded firstFail controlOutcome dataOutcome controlBytes dataBytes known keyOk resultOk ivOk sourceOk decryptedOk writtenOk payloadOk slotOf slotsOf newGuest keyStart keyArea areaOf keyLen keyOf bit offers directionOk lengthsOk accepts present find noRoom full withSlot without withGuest restarted numbered tableAfter storeAfter withArea wipe configOf onlyBits configOk sharesOk setUpAnswer freshTable setUp opcodeOk asked newEntry controlChecks operationOk lengths fits partOf status checksOf outcome checks act reply next sumTo
 facts = refl

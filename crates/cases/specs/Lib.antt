@@ -1,3 +1,5 @@
 pub mod Build
+pub mod Script
 pub mod Starred
+pub mod Long
 pub mod Facts

@@ -2,16 +2,16 @@
 -- Assumes nothing.
 use mathlib.Core.Path.{_≡_}
 use mathlib.Core.Logic.{_⊎_}
-use mathlib.Core.Bool.{true, false, cond, _&&_}
+use mathlib.Core.Bool.{Bool, true, false, cond, not, _&&_, _||_}
 use mathlib.Core.List.{List, [], _∷_, _++_}
-use Prim.Native.Nat.{ℕ, suc, _+_, _-_, _≤_, _<_}
-use lib.Dec.{eqb, leb}
+use Prim.Native.Nat.{ℕ, suc, _+_, _-_, _^_, _≤_, _<_}
+use lib.Dec.{eqb, leb, ltb}
 use lib.ListN.{length, getD, take}
 use Rattle.model.specs.declared.Table.{Table}
 use Rattle.model.specs.Bytes.{le, le32}
 use Rattle.model.specs.Answer.{ok, err, badmsg, notsupp, invsess, nospc, badGuest, noOutcome, badStore, badFeature, badShares, badConfig, Check}
 use Rattle.model.specs.Lens.{orIn}
-use Rattle.model.specs.Algorithm.{cipher, aead, ivOk}
+use Rattle.model.specs.Algorithm.{cipher, aead, ccm, ivOk}
 use Rattle.model.specs.Session.{slotCount, lastNumber, World, Place, placeAt, guestAt, directed}
 use Rattle.model.specs.View.{live, liveAt, find, holds, total}
 use Rattle.model.specs.Setup.{configOf, freshTable, setUpChecks, setUpAnswer, setUp}
@@ -154,7 +154,22 @@ pub record Acceptable (t : Table) (g : ℕ) (r b : List ℕ) : Type 0 where
   -- and the algorithm
   pub algorithm : fits (named t g r .session) (lengths r) ≡ true
 
--- ---- ticket K4: the lengths of an AEAD request, by its source and its tag
+-- ---- tickets K4 and K12: the lengths of an AEAD request, by its source and tag, and by CCM's payload
+
+-- K12's bound on CCM's payload
+abbrev pub ccmBound : List ℕ → ℕ
+ccmBound r = 256 ^ (15 - lengths r .iv)
+
+-- a payload of n bytes, where the session has this algorithm
+abbrev pub bounded : ℕ → List ℕ → ℕ → Bool
+bounded algo r n = not (eqb algo ccm) || ltb n (ccmBound r)
+
+-- the eleven checks before the length rules hold, and IV, AAD and tag are as the session asks
+pub record Otherwise (w : World) (g : ℕ) (r b : List ℕ) : Type 0 where
+  pub before : Passed (take 11 (checks w g (Admit r b)))
+  pub iv : ivOk aead (named (w .table) g r .session .algo) (lengths r .iv) ≡ true
+  pub aad : lengths r .aad ≡ named (w .table) g r .session .aad
+  pub tag : lengths r .result ≡ named (w .table) g r .session .result
 
 pub record AeadLengths (w : World) (g : ℕ) (r b : List ℕ) : Type 0 where
   -- "for decryption the source is ciphertext followed by tag, at least the tag's length, and the destination is source minus tag"; then the status
@@ -162,13 +177,15 @@ pub record AeadLengths (w : World) (g : ℕ) (r b : List ℕ) : Type 0 where
   pub decrypted : opcode r ≡ 769 → reply w g (Admit r b) .answer ≡ ok → length b ≡ lengths r .source - lengths r .result + 1
   -- for encryption the destination is source plus tag
   pub encrypted : opcode r ≡ 768 → reply w g (Admit r b) .answer ≡ ok → length b ≡ lengths r .source + lengths r .result + 1
-  -- where the eleven checks before the length rules hold, and IV, AAD and tag are as the session asks: accepted exactly if the source is at least the tag and
-  -- the destination is source minus tag, else 1
-  pub decided : opcode r ≡ 769 → Passed (take 11 (checks w g (Admit r b)))
-      → ivOk aead (named (w .table) g r .session .algo) (lengths r .iv) ≡ true
-      → lengths r .aad ≡ named (w .table) g r .session .aad
-      → lengths r .result ≡ named (w .table) g r .session .result
-      → reply w g (Admit r b) .answer ≡ cond (leb (lengths r .result) (lengths r .source) && eqb (lengths r .written) (lengths r .source - lengths r .result)) ok err
+  -- "With CCM the payload must be below 256 to the power (15 minus IV length)": "the source when encrypting and the destination when decrypting"
+  pub sourceBelow : opcode r ≡ 768 → named (w .table) g r .session .algo ≡ ccm → reply w g (Admit r b) .answer ≡ ok → lengths r .source < ccmBound r
+  pub destinationBelow : opcode r ≡ 769 → named (w .table) g r .session .algo ≡ ccm → reply w g (Admit r b) .answer ≡ ok → lengths r .written < ccmBound r
+  -- these lengths decide where all else is right: accepted exactly if they are so, else 1
+  pub encryption : opcode r ≡ 768 → Otherwise w g r b → reply w g (Admit r b) .answer
+      ≡ cond (eqb (lengths r .written) (lengths r .source + lengths r .result) && bounded (named (w .table) g r .session .algo) r (lengths r .source)) ok err
+  pub decryption : opcode r ≡ 769 → Otherwise w g r b → reply w g (Admit r b) .answer
+      ≡ cond (leb (lengths r .result) (lengths r .source) && eqb (lengths r .written) (lengths r .source - lengths r .result)
+      && bounded (named (w .table) g r .session .algo) r (lengths r .written)) ok err
 
 -- ---- demand 3: one claim about the whole list of calls
 
@@ -185,7 +202,7 @@ pub record Demand3 (w : World) (cs : List (Call Request)) : Type 0 where
   pub caps : (g : ℕ) → holds (run w cs .table) g ≤ guestAt (w .table) g .cap
   pub bound : total (run w cs .table) ≤ slotCount
   -- a well-formed create that comes next, from an attached guest that holds fewer than its reserve and has numbers left, is granted;
-  -- 01's term "numbers left": the last one given to it since its last granted attach is not 4,294,967,295
+  -- 01's term "numbers left", with K12: the last one given to it since its last granted attach is not 18,446,744,073,709,551,615
   pub grants : (g : ℕ) (r b : List ℕ)
       → pastOf g w cs .attached ≡ true
       → WellFormed (run w cs) g r b
@@ -196,7 +213,7 @@ pub record Demand3 (w : World) (cs : List (Call Request)) : Type 0 where
   pub same : (g : ℕ) → Within g w cs → outcomes g w cs ≡ outcomes g w (only g cs)
   -- the history rule: what a guest holds is its granted creates less its granted destroys since its last granted attach
   pub history : (g : ℕ) → holds (run w cs .table) g + pastOf g w cs .destroys ≡ pastOf g w cs .creates
-  -- each granted create took the next session number, from 1 to at most 4,294,967,295
+  -- each granted create took the next session number, from 1 to at most 18,446,744,073,709,551,615
   pub numbers : (g : ℕ) → pastOf g w cs .last ≡ pastOf g w cs .creates
   pub range : (g : ℕ) → pastOf g w cs .last ≤ lastNumber
   -- and the table knows of each guest what the history says: whether it is attached, and the last number given to it

@@ -1,8 +1,8 @@
--- Paper 01, "Rules per algorithm", with ticket K4. The numbers of services, directions and algorithms are document 001's.
-use Prim.Native.Nat.{ℕ, _+_, _-_}
+-- Paper 01, "Rules per algorithm", with tickets K4 and K12. The numbers of services, directions and algorithms are document 001's.
+use Prim.Native.Nat.{ℕ, _+_, _-_, _^_}
 use mathlib.Core.List.{List, [], _∷_}
-use mathlib.Core.Bool.{Bool, false, _&&_, _||_}
-use lib.Dec.{eqb, leb}
+use mathlib.Core.Bool.{Bool, false, cond, not, _&&_, _||_}
+use lib.Dec.{eqb, leb, ltb}
 use Rattle.model.specs.declared.Lengths.{Lengths}
 use Rattle.model.specs.Lens.{Lens, oneOf, span, multiple, atLeast, any, Rule, orIn, ruled}
 
@@ -45,6 +45,9 @@ macs = 1 ∷ 2 ∷ 3 ∷ 4 ∷ 5 ∷ 6 ∷ 26 ∷ []
 -- GCM 1, CCM 2, CHACHA20_POLY1305 3
 abbrev pub aeads : List ℕ
 aeads = 1 ∷ 2 ∷ 3 ∷ []
+
+abbrev pub ccm : ℕ
+ccm = 2
 
 -- ---- cipher
 
@@ -136,3 +139,11 @@ writtenOk service direction n =
     || (eqb service hash || eqb service mac) && eqb (n .written) (n .result)
     || eqb service aead && eqb direction encrypt && eqb (n .written) (n .source + n .result)
     || eqb service aead && eqb direction decrypt && decryptedOk n
+
+-- of an AEAD, by K12: "The payload is the source when encrypting and the destination when decrypting"
+abbrev pub payload : ℕ → Lengths → ℕ
+payload direction n = cond (eqb direction encrypt) (n .source) (n .written)
+
+-- by K12: "With CCM the payload must be below 256 to the power (15 minus IV length)"
+unfoldable pub payloadOk : ℕ → ℕ → ℕ → Lengths → Bool
+payloadOk service algo direction n = not (eqb service aead && eqb algo ccm) || ltb (payload direction n) (256 ^ (15 - n .iv))

@@ -14,7 +14,7 @@ use Rattle.model.specs.declared.Session.{Session}
 use Rattle.model.specs.Bytes.{le32, le64, part}
 use Rattle.model.specs.Answer.{err, badmsg, notsupp, invsess, badGuest, noOutcome, badStore, Check}
 use Rattle.model.specs.Lens.{orIn}
-use Rattle.model.specs.Algorithm.{cipher, hash, mac, aead, ivOk, sourceOk, writtenOk}
+use Rattle.model.specs.Algorithm.{cipher, hash, mac, aead, ivOk, sourceOk, writtenOk, payloadOk}
 use Rattle.model.specs.Session.{Entry, keyOf, bit, directed}
 use Rattle.model.specs.View.{isLive, sessionIn, sized}
 use Rattle.model.specs.Control.{opcode, serviceOf, service, ofService}
@@ -66,6 +66,7 @@ fits x n =
     ivOk (x .service) (x .algo) (n .iv)
     && sourceOk (x .service) (x .algo) (n .source)
     && writtenOk (x .service) (x .direction) n
+    && payloadOk (x .service) (x .algo) (x .direction) n
     && (not (eqb (x .service) aead) || eqb (n .aad) (x .aad))
     && (eqb (x .service) cipher || eqb (n .result) (x .result))
 

@@ -22,9 +22,9 @@ areaSize = 128
 abbrev pub storeSize : ℕ
 storeSize = 16384
 
--- "Session numbers run per guest from 1 to 4,294,967,295"
+-- "Session numbers run per guest from 1" to 18,446,744,073,709,551,615, by K12
 abbrev pub lastNumber : ℕ
-lastNumber = 4294967295
+lastNumber = 18446744073709551615
 
 -- ---- slots and guests
 

@@ -16,9 +16,9 @@ use Rattle.model.specs.View.{sized}
 
 -- ---- the configuration: twelve 32-bit fields in document 001's order, then max_size (64 bits)
 
--- of max_size
+-- of max_size, by K12: "max_size may now be up to 1,048,576"
 abbrev pub sizeLimit : ℕ
-sizeLimit = 65536
+sizeLimit = 1048576
 
 unfoldable pub configOf : List ℕ → Config
 configOf b = record {
@@ -47,7 +47,7 @@ unfoldable pub onlyBits : List ℕ → ℕ → Bool
 onlyBits l mask = eqb (bitAnd mask (bits l)) mask
 
 -- "status 1; max_dataqueues 1 to 8; crypto_services only bits 0 to 3; each mask only bits of the algorithms below; both key limits at most 64;
--- reserved 0; max_size at most 65,536"
+-- reserved 0"; max_size at most its limit
 unfoldable pub configOk : Config → Bool
 configOk k =
     eqb (k .status) 1

@@ -40,7 +40,7 @@ pub const ENCRYPT: u32 = 1;
 pub const DECRYPT: u32 = 2;
 
 // The last session number of a guest.
-pub const LAST_NUMBER: u64 = 4294967295;
+pub const LAST_NUMBER: u64 = 18446744073709551615;
 
 // The bytes of the key store.
 pub const STORE_SIZE: usize = 16384;

@@ -60,7 +60,7 @@ fn start(store: &mut [u8]) -> Table
     ensures { λ t. ⌜ world t (now (store .exit)) ≡ startedOn (now (store .entry)) ⌝ }
 {
     let config =
-        b"\x01\0\0\0\x08\0\0\0\x0f\0\0\0\x1c\x21\0\0\0\0\0\0\x7e\0\0\0\x7e\0\0\x04\0\0\0\0\x0e\0\0\0\x40\0\0\0\x40\0\0\0\0\0\0\0\0\0\x01\0\0\0\0\0";
+        b"\x01\0\0\0\x08\0\0\0\x0f\0\0\0\x1c\x21\0\0\0\0\0\0\x7e\0\0\0\x7e\0\0\x04\0\0\0\0\x0e\0\0\0\x40\0\0\0\x40\0\0\0\0\0\0\0\0\0\x10\0\0\0\0\0";
     let r = device::set_up(config, [8; 8], [32; 8], store);
     r.table
 }

@@ -456,6 +456,7 @@ fn fits_session(x: model::Session, n: model::Lengths) -> bool
     rules::iv_ok(x.service, x.algo, n.iv)
         & rules::source_ok(x.service, x.algo, n.source)
         & rules::written_ok(x.service, x.direction, n)
+        & rules::payload_ok(x.service, x.algo, x.direction, n)
         & (!(x.service == model::AEAD) | (n.aad == x.aad))
         & ((x.service == model::CIPHER) | (n.result == x.result))
 }

@@ -1,10 +1,11 @@
 // Paper 01's "Rules per algorithm" and the tests of a configuration and of shares. Each rule is its table, written out row by row.
 ghost use mathlib.Core.Path.{_≡_};
 ghost use mathlib.Core.Bool.{false};
-ghost use Prim.Native.Nat.{_≤_};
+ghost use Prim.Native.Nat.{_-_, _^_, _≤_};
+ghost use lib.Dec.{ltb};
 ghost use Rattle.model.specs.Lens.{orIn, ruled};
 ghost use Rattle.model.specs.Algorithm.{ciphers, hashes, macs, aeads, cipherKeys, cipherIvs, cipherSources, hashResults, macKeys, cmacResults, aeadKeys, aeadIvs, aeadTags};
-ghost use Rattle.model.specs.Algorithm.{known, keyOk, resultOk, ivOk, sourceOk, decryptedOk, writtenOk};
+ghost use Rattle.model.specs.Algorithm.{known, keyOk, resultOk, ivOk, sourceOk, decryptedOk, writtenOk, payload, payloadOk};
 ghost use Rattle.model.specs.Session.{bit, maskOf, offers, directionOk, keyLimit, lengthsOk, accepts};
 ghost use Rattle.model.specs.Setup.{configOk, sharesOk};
 
@@ -187,6 +188,36 @@ pub fn written_ok(service: u32, direction: u32, n: model::Lengths) -> bool
         | (service == model::AEAD) & (direction == model::DECRYPT) & decrypted_ok(n)
 }
 
+// A payload of n bytes is below 256 to the power (15 minus IV length): the rule of CCM. Lengths have 32 bits, so IVs up to 11 allow every one.
+fn ccm_payload(iv: u32, n: u32) -> bool
+    ensures { λ r. ⌜ r ≡ ltb n (256 ^ (15 - iv)) ⌝ }
+{
+    match iv {
+        0..=11 => true,
+        12 => n < 16777216,
+        13 => n < 65536,
+        14 => n < 256,
+        _ => n < 1,
+    }
+}
+
+// The payload of an AEAD: what is to be encrypted, or was.
+fn payload(direction: u32, n: model::Lengths) -> u32
+    ensures { λ r. ⌜ r ≡ payload direction n ⌝ }
+{
+    if direction == model::ENCRYPT {
+        return n.source;
+    }
+    n.written
+}
+
+// The payload's length; only CCM has a rule.
+pub fn payload_ok(service: u32, algo: u32, direction: u32, n: model::Lengths) -> bool
+    ensures { λ r. ⌜ r ≡ payloadOk service algo direction n ⌝ }
+{
+    !((service == model::AEAD) & (algo == 2)) | ccm_payload(n.iv, payload(direction, n))
+}
+
 // Bit n of a mask.
 pub fn has_bit(mask: u32, n: u32) -> bool
     ensures { λ r. ⌜ r ≡ bit mask n ⌝ }
@@ -272,7 +303,7 @@ pub fn config_ok(k: model::Config) -> bool
         & (k.cipherkey <= 64)
         & (k.authkey <= 64)
         & (k.reserved == 0)
-        & (k.size <= 65536)
+        & (k.size <= 1048576)
 }
 
 // A share as a number of 64 bits.

@@ -8,12 +8,13 @@ returns : tie.Need-returns
 unfolding fits
 returns c =
     let at = c .before .before .before .before .before .before in
-    rw (at .before .before .iv-ok .ensures, at .before .source-ok .ensures, at .written-ok .ensures)
+    rw (at .before .before .before .iv-ok .ensures, at .before .before .source-ok .ensures, at .before .written-ok .ensures, at .payload-ok .ensures)
 
 pub fits-session-spec : {M : Type 1} → statement M
 fits-session-spec =
     tie.close
     (tie.spec
+    (λ c κs. search needs)
     (λ c κs. search needs)
     (λ c κs. search needs)
     (λ c κs. search needs)
