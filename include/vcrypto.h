@@ -103,7 +103,7 @@ struct vcrypto_span {
     size_t size;
 };
 
-/* A fresh table from a configuration of 56 bytes and each guest's reserve and cap.
+/* A fresh table from a configuration of 56 bytes, with a max_size of at most 1,048,576, and each guest's reserve and cap.
  * Answers VCRYPTO_BAD_STORE, _BAD_CONFIG, _BAD_SHARES in this order, or _OK.
  * _OK: all slots free, no guest attached, the store all zero. Else: a table that offers nothing, and the store as it was. */
 struct vcrypto_reply vcrypto_set_up(const uint8_t *config, size_t config_len, const uint8_t reserves[VCRYPTO_GUESTS], const uint8_t caps[VCRYPTO_GUESTS],

@@ -2,8 +2,8 @@
 
 use crate::rng::Rng;
 use crate::rules::Service::{self, *};
-use crate::rules::{Algorithm, Lengths, ALGORITHMS};
-use crate::second::{Session, Table};
+use crate::rules::{Algorithm, Lengths, ALGORITHMS, CCM};
+use crate::second::{Live, Session, Table};
 
 // Lengths at and beside the edges of all algorithms.
 const KEYS: [u64; 16] = [0, 1, 8, 15, 16, 17, 23, 24, 25, 31, 32, 33, 48, 63, 64, 65];
@@ -32,6 +32,14 @@ pub const OPCODES: [u64; 14] = [
 ];
 /// The largest 32-bit number.
 const LOW: u64 = 4_294_967_295;
+/// The first payloads that CCM refuses, with an IV of 13 and of 12 bytes (ticket K12).
+const PAST_13: u64 = 1 << 16;
+const PAST_12: u64 = 1 << 24;
+/// The largest max_size before ticket K12, and an AAD that brings a short source near it.
+const OLD: u64 = 65_536;
+pub const LONG_AAD: u64 = 61_000;
+/// Room for all lengths but a source that is aimed at an edge, which comes on top.
+const ROOM: u64 = 70_000;
 
 /// A session after the rules, with a number near those given.
 pub fn invented(rng: &mut Rng, owner: u8, last: u64) -> Session {
@@ -40,6 +48,8 @@ pub fn invented(rng: &mut Rng, owner: u8, last: u64) -> Session {
         0 => last,
         1 => last.saturating_sub(rng.below(3)),
         2 => rng.beside(last),
+        // At and past 32 bits, the low half also that of another session.
+        3 | 4 if last > LOW => LOW - 2 + rng.below(40),
         _ => 1 + rng.below(last.clamp(1, 40)),
     };
     let (key, direction) = match rules.service {
@@ -76,7 +86,7 @@ fn some_rules(rng: &mut Rng) -> &'static Algorithm {
 
 fn some_aad(rng: &mut Rng) -> u64 {
     if rng.one_in(40) {
-        61_000
+        LONG_AAD
     } else {
         rng.pick(&[0, 0, 1, 13, 20, 20, 64, 300, 65_536, 4_294_967_295])
     }
@@ -91,9 +101,9 @@ fn place_long(bytes: &mut [u8], at: usize, field: u64) {
     bytes[at..at + 8].copy_from_slice(&field.to_le_bytes());
 }
 
-/// A buffer of a claimed length, or a short one where the claim is past every limit.
-fn lent(rng: &mut Rng, claimed: u64, least: usize) -> usize {
-    if claimed <= 70_000 {
+/// A buffer of a claimed length, or a short one where the claim is past the longest.
+fn lent(rng: &mut Rng, claimed: u64, least: usize, longest: u64) -> usize {
+    if claimed <= longest {
         claimed as usize
     } else {
         least + rng.below(80) as usize
@@ -150,7 +160,7 @@ pub fn create(rng: &mut Rng, table: &Table, damaged: bool) -> (Vec<u8>, usize) {
             _ => {}
         }
     }
-    let size = lent(rng, 16 + fixed as u64 + (key & LOW), 16 + fixed);
+    let size = lent(rng, 16 + fixed as u64 + (key & LOW), 16 + fixed, ROOM);
     let mut bytes = rng.bytes(size);
     place(&mut bytes, 0, opcode);
     let other = rng.beside(algo);
@@ -264,7 +274,8 @@ pub fn data(rng: &mut Rng, table: &Table, session: &Session, damaged: bool) -> (
     let decrypts = matches!(service, Cipher | Aead) && session.direction == 2;
     let mut opcode = service as u64 * 256 + u64::from(decrypts);
     let (mut number, mut flag, mut op_type) = (session.number, 1, 1);
-    let mut asked = right_lengths(rng, table, session, rules);
+    let mut asked = right_lengths(rng, table, session, rules, damaged);
+    let longest = ROOM + asked.source;
     let ways = ways(rng, damaged, 18);
     for way in &ways {
         match way {
@@ -280,8 +291,8 @@ pub fn data(rng: &mut Rng, table: &Table, session: &Session, damaged: bool) -> (
     }
     // Where the sum read passes 32 bits, the readable bytes are as many as it is in 32 bits.
     let read = 24 + fixed as u64 + asked.iv + asked.source + asked.aad;
-    let mut size = lent(rng, read & LOW, 24 + fixed).max(24 + fixed);
-    let mut writable = lent(rng, (asked.written & LOW) + 1, 0);
+    let mut size = lent(rng, read & LOW, 24 + fixed, longest).max(24 + fixed);
+    let mut writable = lent(rng, (asked.written & LOW) + 1, 0, longest);
     let mut bytes = rng.bytes(size);
     place(&mut bytes, 0, opcode);
     place_long(&mut bytes, 8, number);
@@ -307,11 +318,18 @@ pub fn data(rng: &mut Rng, table: &Table, session: &Session, damaged: bool) -> (
     (bytes, writable)
 }
 
-/// The lengths of a request that is accepted, at times with its sum at max_size or just past it.
-fn right_lengths(rng: &mut Rng, table: &Table, session: &Session, rules: &Algorithm) -> Asked {
+/// The lengths of a request that is accepted, at times with its sum at or beside max_size or the
+/// old limit, or with its payload at or beside CCM's bound.
+fn right_lengths(
+    rng: &mut Rng,
+    table: &Table,
+    session: &Session,
+    rules: &Algorithm,
+    damaged: bool,
+) -> Asked {
     let service = rules.service;
     let tag = u64::from(session.result);
-    let (iv, aad, share) = match service {
+    let (mut iv, aad, share) = match service {
         Cipher => (rng.length(rules.iv, &IVS), 0, 2),
         Hash | Mac => (0, 0, 1),
         Aead => (rng.length(rules.iv, &IVS), session.aad.into(), 2),
@@ -319,14 +337,26 @@ fn right_lengths(rng: &mut Rng, table: &Table, session: &Session, rules: &Algori
     let mut source = rng.length(rules.source, &SOURCES);
     let max = table.config.max_size;
     let near = iv + aad + written(service, false, 0, tag);
-    // Long requests are slow to make.
-    let edge = max <= 600 && rng.one_in(2) || max <= 70_000 && rng.one_in(100);
-    if edge && max >= near {
+    // Long requests are slow to make; where the AAD is long, they all are.
+    let limit = match max {
+        ..=600 => rng.one_in(2).then_some(max),
+        _ if aad == LONG_AAD => rng.one_in(2).then_some(OLD + rng.below(3)),
+        601..=70_000 => rng.one_in(50).then_some(max),
+        _ if rng.one_in(200) => Some(OLD + rng.below(3)),
+        70_001..=1_100_000 => rng.one_in(300).then_some(max),
+        _ => None,
+    };
+    if let Some(limit) = limit.filter(|limit| *limit >= near) {
         let unit = match rules.source {
             Lengths::MultipleOf(unit) => unit,
             _ => 1,
         };
-        source = (max - near) / share / unit * unit + rng.pick(&[0, 0, unit]);
+        source = (limit - near) / share / unit * unit + rng.pick(&[0, 0, unit]);
+        if rng.one_in(6) {
+            source = source.saturating_sub(unit);
+        }
+    } else if let Some(bound) = at_bound(rng, table, session, rules, damaged) {
+        (iv, source) = bound;
     }
     let decrypts = session.direction == 2;
     if service == Aead && decrypts {
@@ -340,6 +370,38 @@ fn right_lengths(rng: &mut Rng, table: &Table, session: &Session, rules: &Algori
         written: written(service, decrypts, source, tag),
         tag,
     }
+}
+
+/// Now and then an IV and a payload at or beside CCM's bound, for the other AEADs too, where
+/// max_size has room for them.
+fn at_bound(
+    rng: &mut Rng,
+    table: &Table,
+    session: &Session,
+    rules: &Algorithm,
+    damaged: bool,
+) -> Option<(u64, u64)> {
+    let (tag, aad) = (u64::from(session.result), u64::from(session.aad));
+    let room = table.config.max_size.saturating_sub(aad + 300) / 2;
+    if rules.service != Aead || aad > ROOM || room <= PAST_13 {
+        return None;
+    }
+    let ccm = rules.number == CCM;
+    if rng.one_in(if ccm { 8 } else { 50 }) {
+        let any = 7 + rng.below(7);
+        let iv = rng.pick(&[13, 13, 13, 12, any]);
+        let payload = PAST_13 - 2 + rng.below(4);
+        // Payload and tag at the bound, which is where a bound on the wrong length would bite.
+        let short = PAST_13 - tag - rng.below(2);
+        let payload = rng.pick(&[payload, payload, short]);
+        return Some((if ccm { iv } else { 12 }, payload));
+    }
+    // These are the slowest, so none is spent on what is refused anyway.
+    let chances = [350, 500, 2_000][rules.number as usize - 1];
+    let few = room > PAST_12 && !damaged && rng.one_in(chances);
+    let same = |live: Live<'_>| live.session == session;
+    let live = few && table.find(session.owner, session.number).is_some_and(same);
+    live.then(|| (12, PAST_12 - u64::from(ccm && rng.one_in(4))))
 }
 
 /// What a request writes, apart from the status; 0 where a source is short of its tag.

@@ -4,7 +4,7 @@ use crate::host;
 use crate::make::SetUp;
 use crate::make_request::invented;
 use crate::rng::Rng;
-use crate::second::{CONFIG, GUESTS, LAST, SLOTS, STORE};
+use crate::second::{CONFIG, GUESTS, LARGEST, LAST, SLOTS, STORE};
 
 /// The masks of all algorithms in the rules, in the order of the configuration.
 const MASKS: [u32; 6] = [0x211c, 0, 0x7e, 0x400_007e, 0, 0xe];
@@ -43,10 +43,12 @@ fn config(rng: &mut Rng) -> Vec<u8> {
             .iter_mut()
             .for_each(|mask| *mask &= rng.next() as u32);
     }
-    let max_size = match rng.below(4) {
-        0 | 1 => 65_536,
-        2 => rng.below(600),
-        _ => rng.pick(&[0, 1, 4_096, 65_535]),
+    let max_size = match rng.below(8) {
+        0..=2 => LARGEST,
+        3 | 4 => rng.below(600),
+        5 => rng.pick(&[0, 1, 4_096, 65_535]),
+        6 => 65_536,
+        _ => rng.pick(&[65_537, LARGEST - 1]),
     };
     fields
         .iter()
@@ -58,7 +60,15 @@ fn config(rng: &mut Rng) -> Vec<u8> {
 fn damage_config(rng: &mut Rng, config: &mut [u8]) {
     let field = rng.below(13) as usize;
     if field == 12 {
-        let size = rng.pick(&[65_537, 65_536 + (1 << 32), 1 << 32, u64::MAX]);
+        let size = rng.pick(&[
+            LARGEST + 1,
+            LARGEST + 1,
+            LARGEST + (1 << 32),
+            65_536 + (1 << 32),
+            1 << 32,
+            1 << 40,
+            u64::MAX,
+        ]);
         config[48..].copy_from_slice(&size.to_le_bytes());
         return;
     }
@@ -149,7 +159,7 @@ pub fn by_hand(rng: &mut Rng) -> host::Table {
             0 => 0,
             1 => rng.pick(&[LAST - 2, LAST - 1]),
             2 => LAST,
-            3 => rng.pick(&[LAST + 1, LAST + 5, u64::MAX]),
+            3 => (1 << 32) - 3 + rng.below(9),
             4 => rng.next() >> rng.below(64),
             _ => 1 + rng.below(40),
         };
@@ -207,7 +217,7 @@ fn config_by_hand(rng: &mut Rng) -> host::Config {
     }
     fields[9] = rng.pick(&[64, 64, 64, 65, 255, u32::MAX, 63, 32, 31, 16]);
     fields[10] = rng.pick(&[64, 64, 64, 65, 255, u32::MAX, 63, 32, 31, 16]);
-    let size = match rng.below(6) {
+    let size = match rng.below(8) {
         0 | 1 => rng.below(600),
         2 => u64::MAX,
         3 => rng.pick(&[
@@ -215,11 +225,14 @@ fn config_by_hand(rng: &mut Rng) -> host::Config {
             (1 << 32) + 15,
             1 << 33,
             1 << 34,
+            1 << 40,
             u64::MAX - 1,
             68_000,
         ]),
         4 => rng.next(),
-        _ => 65_536,
+        5 => rng.pick(&[65_535, 65_536, 65_536, 65_537]),
+        6 => LARGEST,
+        _ => rng.pick(&[LARGEST - 1, LARGEST + 1]),
     };
     host::Config { fields, size }
 }

@@ -1,6 +1,7 @@
 //! Random traces for the replay, good ones and ones that are bad in each way the scope paper names.
 
 use crate::make::{attach, call, Call, Mood};
+use crate::make_request::LONG_AAD;
 use crate::rng::Rng;
 use crate::second::{set_up, word, STORE};
 use crate::trace::{largest_config, CAPS, RESERVES};
@@ -9,7 +10,8 @@ const LONGEST: usize = 65_536;
 const WIDEST: usize = 4_096;
 
 pub fn trace(rng: &mut Rng) -> Vec<u8> {
-    let room = rng.pick(&[0, 60, 400, 400, 3_000, 3_000, 10_000, LONGEST - 8]);
+    let long = LONGEST - 8;
+    let room = rng.pick(&[0, 60, 400, 400, 3_000, 3_000, 10_000, long, long]);
     let mut records = records(rng, room);
     let mut prefix = rng.pick(&[0, 0, 0, 1, 7, 40]);
     let body: usize = records.iter().map(Vec::len).sum();
@@ -70,6 +72,11 @@ fn records(rng: &mut Rng, room: usize) -> Vec<Vec<u8>> {
     let (_, mut table) = set_up(&largest_config(), &RESERVES, &CAPS, &mut store);
     let mut mood = Mood::random(rng);
     mood.weights[4..].fill(0);
+    // Here the table only aims data requests, and none with a longer sum need be made.
+    table.config.max_size = LONGEST as u64;
+    // Some long traces keep their room for a request with a long AAD, its sum about that length.
+    let keeps = room > 60_000 && rng.one_in(2);
+    let brief = if keeps { 2_000 } else { room };
     let mut opening = mood.guests.clone();
     let (mut records, mut used) = (Vec::new(), 0);
     for _ in 0..2_000 {
@@ -77,7 +84,7 @@ fn records(rng: &mut Rng, room: usize) -> Vec<Vec<u8>> {
             Some(guest) if !rng.one_in(12) => attach(rng, guest),
             _ => call(rng, &mood, &table),
         };
-        let (kind, guest, readable, mut writable) = match next {
+        let (kind, guest, mut readable, mut writable) = match next {
             Call::Attach { guest, word } => {
                 let writable = rng.pick(&[0, 0, 1, 16, WIDEST]);
                 (0, guest, word.to_le_bytes().to_vec(), vec![0; writable])
@@ -86,6 +93,11 @@ fn records(rng: &mut Rng, room: usize) -> Vec<Vec<u8>> {
             Call::Data(request) => (2, request.guest, request.readable, request.writable),
             _ => continue,
         };
+        // All AEAD sessions of such a trace have the long AAD.
+        if keeps && kind == 1 && readable.len() > 40 && word(&readable, 0) == 0x302 {
+            readable[28..32].copy_from_slice(&(LONG_AAD as u32).to_le_bytes());
+        }
+        let room = if readable.len() > 60_000 { room } else { brief };
         if readable.len() > 65_535 || writable.len() > WIDEST || used + 6 + readable.len() > room {
             continue;
         }

@@ -66,8 +66,18 @@ impl Tally {
     }
 }
 
+/// The most bytes that are shown of one buffer: a whole trace, of a long request its start.
+const SHOWN: usize = 65_537;
+
 pub fn hex(bytes: &[u8]) -> String {
-    bytes.iter().map(|byte| format!("{byte:02x}")).collect()
+    let shown = bytes.iter().take(SHOWN);
+    let text: String = shown.map(|byte| format!("{byte:02x}")).collect();
+    let rest = bytes.len().saturating_sub(SHOWN);
+    if rest == 0 {
+        text
+    } else {
+        format!("{text} and {rest} bytes more")
+    }
 }
 
 /// The call with all its arguments, the table it was made on, and both results.

@@ -104,8 +104,9 @@ impl Table {
         demand(!service.directed() || matches!(direction, 1 | 2), Error)?;
         demand(self.config.lengths_fit(algorithm, key_len, result), Error)?;
         demand(key.len() as u64 == key_len, Error)?;
-        let number = self.guests[usize::from(guest)].last.saturating_add(1);
-        demand(number <= LAST, Error)?;
+        let last = self.guests[usize::from(guest)].last;
+        demand(last < LAST, Error)?;
+        let number = last + 1;
         demand(!self.no_space(guest), NoSpace)?;
 
         let slot = self.slots.iter().position(Option::is_none).ok_or(NoSpace)?;
@@ -303,13 +304,15 @@ impl Claimed {
             Hash | Mac => self.written == kept,
             Aead => {
                 // Ticket K4: a decrypted source ends in the tag, an encrypted destination does.
-                let destination = match live.session.direction {
-                    2 => self.source.checked_sub(kept),
-                    _ => Some(self.source + kept),
+                // Ticket K12: the payload is the one of the two without a tag.
+                let (destination, payload) = match live.session.direction {
+                    2 => (self.source.checked_sub(kept), self.written),
+                    _ => (Some(self.source + kept), self.source),
                 };
                 self.tag == kept
                     && self.aad == live.session.aad.into()
                     && destination == Some(self.written)
+                    && live.algorithm.payload_fits(self.iv, payload)
             }
         };
         within

@@ -26,10 +26,10 @@ impl Rng {
     }
 
     pub fn bytes(&mut self, count: usize) -> Vec<u8> {
-        let mut bytes: Vec<u8> = (0..count.div_ceil(8))
-            .flat_map(|_| self.next().to_le_bytes())
-            .collect();
-        bytes.truncate(count);
+        let mut bytes = vec![0; count];
+        for chunk in bytes.chunks_mut(8) {
+            chunk.copy_from_slice(&self.next().to_le_bytes()[..chunk.len()]);
+        }
         bytes
     }
 
@@ -40,8 +40,8 @@ impl Rng {
             2 | 3 => number.wrapping_sub(1),
             4 => number ^ 1 << self.below(32),
             5 => number ^ 1 << 8,
-            6 => number.wrapping_add(1 << 32),
-            7 => self.pick(&[0, 4_294_967_295, u64::MAX]),
+            6 => number.wrapping_add(1 << self.pick(&[32, 32, 48, 63])),
+            7 => self.pick(&[0, 4_294_967_295, 4_294_967_296, u64::MAX]),
             8 => self.below(70),
             _ => self.next(),
         }

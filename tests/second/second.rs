@@ -1,6 +1,6 @@
 //! The second program: the rules of the crypto device once more, written from the papers alone.
-//! It follows the scope paper, as ticket K4 amends it, section by section; answers have the
-//! numbers of its first table.
+//! It follows the scope paper, as tickets K4 and K12 amend it, section by section; answers have
+//! the numbers of its first table.
 
 use crate::rules::Service::*;
 use crate::rules::{Algorithm, Service, ALGORITHMS};
@@ -11,8 +11,10 @@ pub const GUESTS: usize = 8;
 pub const AREA: usize = 128;
 pub const STORE: usize = SLOTS * AREA;
 pub const CONFIG: usize = 56;
-/// The last session number that a guest can be given.
-pub const LAST: u64 = 4_294_967_295;
+/// The largest max_size that a set-up accepts, of ticket K12.
+pub const LARGEST: u64 = 1_048_576;
+/// The last session number that a guest can be given, of ticket K12.
+pub const LAST: u64 = 18_446_744_073_709_551_615;
 
 // ---- Answer numbers ----
 
@@ -76,7 +78,7 @@ impl Config {
             && cipher_key <= 64
             && auth_key <= 64
             && reserved == 0
-            && self.max_size <= 65_536
+            && self.max_size <= LARGEST
     }
 
     fn mask(&self, service: Service) -> u64 {

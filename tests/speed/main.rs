@@ -201,16 +201,8 @@ fn get(r: &[u8], at: usize) -> u32 {
     u32::from_le_bytes(r[at..at + 4].try_into().unwrap())
 }
 
-// A packet of 16 to 1,500 bytes for the session, as its algorithm takes it.
-fn good(s: &yard::Slot, random: &mut Random) -> Request {
-    let any = 16 + random.below(1485) as u32;
-    let source = if s.service == 0 && s.algo != 4 { any / 16 * 16 } else { any };
-    let iv = match (s.service, s.algo) {
-        (0, 2) => 0,
-        (0, 8) => 8,
-        (0, _) => 16,
-        _ => 12,
-    };
+// A request of the session with an IV and a source of these lengths.
+fn data(s: &yard::Slot, iv: u32, source: u32, verdict: u8) -> Request {
     let result = u32::from(s.result);
     let destination = if s.direction == 2 { source - result } else { source + result }; // of an AEAD; no tag is above 16
     let opcode = u32::from(s.service) * 256 + u32::from(s.direction == 2);
@@ -222,8 +214,20 @@ fn good(s: &yard::Slot, random: &mut Random) -> Request {
     };
     r.extend(words(&part));
     r.resize(r.len() + more as usize, 0xa5);
-    let verdict = [0, 0, 0, 0, 0, 0, 1, 2][random.below(8) as usize];
     Request { guest: s.owner, verdict, readable: r, writable: vec![0xee; written as usize + 1] }
+}
+
+// A packet of 16 to 1,500 bytes for the session, as its algorithm takes it.
+fn good(s: &yard::Slot, random: &mut Random) -> Request {
+    let any = 16 + random.below(1485) as u32;
+    let source = if s.service == 0 && s.algo != 4 { any / 16 * 16 } else { any };
+    let iv = match (s.service, s.algo) {
+        (0, 2) => 0,
+        (0, 8) => 8,
+        (0, _) => 16,
+        _ => 12,
+    };
+    data(s, iv, source, [0, 0, 0, 0, 0, 0, 1, 2][random.below(8) as usize])
 }
 
 // One thing wrong with a good request; the reasons by their share of 20.
@@ -372,6 +376,23 @@ fn check(t: &Table, requests: &[Request], random: &mut Random) -> [usize; 22] {
     answers
 }
 
+// Ticket K12: payloads at CCM's bound, of every AEAD session in both directions. Of CCM's the longer one with the longer IV is refused, and no other.
+fn check_payloads(t: &Table) {
+    let mut t = *t;
+    t.config.size = u64::MAX;
+    for at in (0..t.slots.len()).filter(|&at| t.slots[at].held && t.slots[at].service == 3).collect::<Vec<_>>() {
+        for direction in [1, 2] {
+            t.slots[at].direction = direction;
+            let (s, y) = (t.slots[at], yard_table(&t));
+            for (iv, payload) in [(12, 65535), (12, 65536), (13, 65535), (13, 65536)] {
+                let tag = if direction == 2 { u32::from(s.result) } else { 0 };
+                let refused = if s.algo == 2 { (iv, payload) == (13, 65536) } else { iv == 13 };
+                assert_eq!(compare(&t, &y, &data(&s, iv, payload + tag, 0)), u8::from(refused));
+            }
+        }
+    }
+}
+
 // ---- the measure
 
 // Two pages for a table. What a copy costs depends on where it is copied from, so both sides' tables stand at the same place, another each round.
@@ -407,6 +428,7 @@ fn main() {
     let y = yard_table(&t);
     let mut requests = prepare(REQUESTS, &t, &mut random);
     let answers = check(&t, &requests, &mut random);
+    check_payloads(&t);
     let millions: usize = args().nth(1).map_or(0, |n| n.parse().unwrap());
     if millions == 0 {
         println!("answers 0 to 5: {:?} of {REQUESTS} requests", &answers[..6]);

@@ -1,5 +1,5 @@
-// The yardstick: data admission and finish as one would write them in ordinary Rust, from paper 01 and ticket K4 alone. The table is passed by
-// value, as the library's is; the forms that end in `_ref` take it by reference.
+// The yardstick: data admission and finish as one would write them in ordinary Rust, from paper 01 and tickets K4 and K12 alone. The table is
+// passed by value, as the library's is; the forms that end in `_ref` take it by reference.
 use std::slice::{from_raw_parts, from_raw_parts_mut};
 
 #[derive(Clone, Copy)]
@@ -134,7 +134,7 @@ struct Lengths {
     result: u32,
 }
 
-// IV and source lengths of a cipher or AEAD, by the rules.
+// IV, source and payload lengths of a cipher or AEAD, by the rules.
 fn lengths_ok(s: &Slot, n: &Lengths) -> bool {
     match (s.service, s.algo) {
         (CIPHER, 2) => n.iv == 0 && n.source % 16 == 0,
@@ -143,7 +143,16 @@ fn lengths_ok(s: &Slot, n: &Lengths) -> bool {
         (CIPHER, 8) => n.iv == 8 && n.source % 8 == 0,
         (CIPHER, 13) => n.iv == 16 && n.source >= 16,
         (AEAD, 1 | 3) => n.iv == 12,
-        (AEAD, 2) => (7..=13).contains(&n.iv),
+        // Ticket K12: the payload is below 256 to the power (15 less the IV), which 32 bits can reach only with IV 12 or 13.
+        (AEAD, 2) => {
+            let payload = if s.direction == 2 { n.written } else { n.source };
+            match n.iv {
+                7..=11 => true,
+                12 => payload < 1 << 24,
+                13 => payload < 1 << 16,
+                _ => false,
+            }
+        }
         _ => true,
     }
 }

@@ -19,7 +19,7 @@ use Rattle.model.specs.Control.{opcode, serviceOf, service}
 use Rattle.model.specs.Data.{number, directionOf, lengths, fits}
 use Rattle.model.specs.Device.{Admit, checks, reply}
 use Rattle.laws.specs.Judge.{Passed, holds-at, passed-both}
-use Rattle.demands.specs.Statement.{named, ccmBound, Otherwise, AeadLengths}
+use Rattle.demands.specs.Statement.{named, ccmBound, AllElse, AeadLengths}
 use Rattle.demands.specs.Demand2.{demand2, checksBy, admit-checks, accepted}
 
 -- the rules on what is written and on the payload, of lengths that fit a session
@@ -93,7 +93,7 @@ module _ (w : World) (g : ℕ) (r b : List ℕ) where
   ruled op = writtenOk aead (directionOf op) n && payloadOk aead (x .algo) (directionOf op) n
 
   -- of an AEAD operation the length rules are the last check, behind eleven
-  last-check : (s : Bool) (op : ℕ) → opcode r ≡ op → serviceOf op ≡ aead → Passed (take 11 (checksBy w g r b s)) → Otherwise w g r b
+  last-check : (s : Bool) (op : ℕ) → opcode r ≡ op → serviceOf op ≡ aead → Passed (take 11 (checksBy w g r b s)) → AllElse w g r b
       → checksBy w g r b s ≡ take 11 (checksBy w g r b s) ++ (ruled op, err) ∷ []
   last-check false op e a p o = absurd (false-true (holds-at (take 11 (checksBy w g r b false)) 6 p))
   last-check true op e a p o =
@@ -105,7 +105,7 @@ module _ (w : World) (g : ℕ) (r b : List ℕ) where
       ap (λ (v : Bool). first ++ (v, err) ∷ []) (fits-aead x n (directionOf op) serves directs (o .iv) (o .aad) (o .tag))
 
   -- so they decide the answer
-  decided-by : (op : ℕ) → opcode r ≡ op → serviceOf op ≡ aead → Otherwise w g r b → reply w g (Admit r b) .answer ≡ cond (ruled op) ok err
+  decided-by : (op : ℕ) → opcode r ≡ op → serviceOf op ≡ aead → AllElse w g r b → reply w g (Admit r b) .answer ≡ cond (ruled op) ok err
   decided-by op e a o = go (ruled op) refl
     where
       found : Bool

@@ -165,7 +165,7 @@ abbrev pub bounded : ℕ → List ℕ → ℕ → Bool
 bounded algo r n = not (eqb algo ccm) || ltb n (ccmBound r)
 
 -- the eleven checks before the length rules hold, and IV, AAD and tag are as the session asks
-pub record Otherwise (w : World) (g : ℕ) (r b : List ℕ) : Type 0 where
+pub record AllElse (w : World) (g : ℕ) (r b : List ℕ) : Type 0 where
   pub before : Passed (take 11 (checks w g (Admit r b)))
   pub iv : ivOk aead (named (w .table) g r .session .algo) (lengths r .iv) ≡ true
   pub aad : lengths r .aad ≡ named (w .table) g r .session .aad
@@ -181,9 +181,9 @@ pub record AeadLengths (w : World) (g : ℕ) (r b : List ℕ) : Type 0 where
   pub sourceBelow : opcode r ≡ 768 → named (w .table) g r .session .algo ≡ ccm → reply w g (Admit r b) .answer ≡ ok → lengths r .source < ccmBound r
   pub destinationBelow : opcode r ≡ 769 → named (w .table) g r .session .algo ≡ ccm → reply w g (Admit r b) .answer ≡ ok → lengths r .written < ccmBound r
   -- these lengths decide where all else is right: accepted exactly if they are so, else 1
-  pub encryption : opcode r ≡ 768 → Otherwise w g r b → reply w g (Admit r b) .answer
+  pub encryption : opcode r ≡ 768 → AllElse w g r b → reply w g (Admit r b) .answer
       ≡ cond (eqb (lengths r .written) (lengths r .source + lengths r .result) && bounded (named (w .table) g r .session .algo) r (lengths r .source)) ok err
-  pub decryption : opcode r ≡ 769 → Otherwise w g r b → reply w g (Admit r b) .answer
+  pub decryption : opcode r ≡ 769 → AllElse w g r b → reply w g (Admit r b) .answer
       ≡ cond (leb (lengths r .result) (lengths r .source) && eqb (lengths r .written) (lengths r .source - lengths r .result)
       && bounded (named (w .table) g r .session .algo) r (lengths r .written)) ok err
 

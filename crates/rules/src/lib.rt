@@ -188,7 +188,7 @@ pub fn written_ok(service: u32, direction: u32, n: model::Lengths) -> bool
         | (service == model::AEAD) & (direction == model::DECRYPT) & decrypted_ok(n)
 }
 
-// A payload of n bytes is below 256 to the power (15 minus IV length): the rule of CCM. Lengths have 32 bits, so IVs up to 11 allow every one.
+// CCM: a payload of n bytes is below 256 to the power (15 minus IV length). IVs up to 11 allow every 32-bit length; the rule on IVs refuses those above 13.
 fn ccm_payload(iv: u32, n: u32) -> bool
     ensures { λ r. ⌜ r ≡ ltb n (256 ^ (15 - iv)) ⌝ }
 {
@@ -201,7 +201,7 @@ fn ccm_payload(iv: u32, n: u32) -> bool
     }
 }
 
-// The payload of an AEAD: what is to be encrypted, or was.
+// The payload of an AEAD: the source when encrypting, the destination when decrypting.
 fn payload(direction: u32, n: model::Lengths) -> u32
     ensures { λ r. ⌜ r ≡ payload direction n ⌝ }
 {
