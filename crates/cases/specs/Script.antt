@@ -21,7 +21,7 @@ use Rattle.laws.specs.Effect.{granted-next, refused-next}
 pub data Row : Type 0 where
   -- a request; the length of its readable bytes, and its answer
   row : Request → ℕ → ℕ → Row
-  -- the first bytes of a data request, how many more it has, and how many writable ones; the same
+  -- the first bytes of a data request, how many more it has, and how many writable ones; the same two numbers
   long : List ℕ → ℕ → ℕ → ℕ → ℕ → Row
 
 abbrev pub Script : Type 0
@@ -41,13 +41,13 @@ readable (Finish op verdict w) = 0
 abbrev rightly : (World → Bool) → World → Request → ℕ → ℕ → Bool
 rightly rest w q n a = eqb (readable q) n && eqb (reply w 0 q .answer) a && rest (next w 0 q)
 
--- of any bytes, so many of them
+-- every row is right, each on what the ones before left; `bytes n` are n bytes, behind the first ones of a long request or its writable ones
 abbrev pub right : (ℕ → List ℕ) → World → Script → Bool
 right bytes w [] = true
 right bytes w (row q n a ∷ s) = rightly (λ v. right bytes v s) w q n a
 right bytes w (long first more room n a ∷ s) = rightly (λ v. right bytes v s) w (Admit (first ++ bytes more) (bytes room)) n a
 
--- ---- by the lengths alone
+-- ---- by first bytes and lengths
 
 -- the answer to a data request r of n readable and m writable bytes
 abbrev answerBy : World → List ℕ → ℕ → ℕ → ℕ
@@ -78,18 +78,19 @@ admit-next w r b = go (same (firstFail (checks w 0 (Admit r b))) ok)
     go (inr d) = sym (refused-next w 0 (Admit r b) n refl d)
 
 module _ (bytes : ℕ → List ℕ) (sized : (n : ℕ) → length (bytes n) ≡ n) where
+  sized-length : (first : List ℕ) (more : ℕ) → length (first ++ bytes more) ≡ length first + more
+  sized-length first more = length-append first (bytes more) ∙ ap (λ (k : ℕ). length first + k) (sized more)
+
   sized-answer : (w : World) (first : List ℕ) (more room : ℕ)
       → reply w 0 (Admit (first ++ bytes more) (bytes room)) .answer ≡ answerBy w (first ++ bytes more) (length first + more) room
   unfolding reply outcome checks checksOf
-  sized-answer w first more room =
-      ap₂ (answerBy w (first ++ bytes more)) (length-append first (bytes more) ∙ ap (λ (k : ℕ). length first + k) (sized more)) (sized room)
+  sized-answer w first more room = ap₂ (answerBy w (first ++ bytes more)) (sized-length first more) (sized room)
 
   by-lengths : (w : World) (s : Script) → right bytes w s ≡ judged bytes w s
   by-lengths w [] = refl
   by-lengths w (row q n a ∷ s) = ap (λ (b : Bool). eqb (readable q) n && eqb (reply w 0 q .answer) a && b) (by-lengths (next w 0 q) s)
   by-lengths w (long first more room n a ∷ s) =
-      let r = first ++ bytes more in
-      rw (length-append first (bytes more), sized more, sized-answer w first more room, admit-next w r (bytes room), by-lengths w s)
+      rw (sized-length first more, sized-answer w first more room, admit-next w (first ++ bytes more) (bytes room), by-lengths w s)
 
   -- a test of scripts that holds of their first bytes and lengths holds of them
   pub from-lengths : (t : (World → Script → Bool) → Bool) → t (judged bytes) ≡ true → t (right bytes) ≡ true
