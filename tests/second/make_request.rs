@@ -2,7 +2,7 @@
 
 use crate::rng::Rng;
 use crate::rules::Service::{self, *};
-use crate::rules::{Algorithm, Lengths, ALGORITHMS, CCM};
+use crate::rules::{Algorithm, Lengths, ALGORITHMS};
 use crate::second::{Live, Session, Table};
 
 // Lengths at and beside the edges of all algorithms.
@@ -32,6 +32,8 @@ pub const OPCODES: [u64; 14] = [
 ];
 /// The largest 32-bit number.
 const LOW: u64 = 4_294_967_295;
+/// AEAD's algorithm CCM.
+const CCM: u64 = 2;
 /// The first payloads that CCM refuses, with an IV of 13 and of 12 bytes (ticket K12).
 const PAST_13: u64 = 1 << 16;
 const PAST_12: u64 = 1 << 24;

@@ -4,7 +4,7 @@ use crate::host;
 use crate::make::SetUp;
 use crate::make_request::invented;
 use crate::rng::Rng;
-use crate::second::{CONFIG, GUESTS, LARGEST, LAST, SLOTS, STORE};
+use crate::second::{CONFIG, GUESTS, LAST, MAX_SIZE, SLOTS, STORE};
 
 /// The masks of all algorithms in the rules, in the order of the configuration.
 const MASKS: [u32; 6] = [0x211c, 0, 0x7e, 0x400_007e, 0, 0xe];
@@ -44,11 +44,11 @@ fn config(rng: &mut Rng) -> Vec<u8> {
             .for_each(|mask| *mask &= rng.next() as u32);
     }
     let max_size = match rng.below(8) {
-        0..=2 => LARGEST,
+        0..=2 => MAX_SIZE,
         3 | 4 => rng.below(600),
         5 => rng.pick(&[0, 1, 4_096, 65_535]),
         6 => 65_536,
-        _ => rng.pick(&[65_537, LARGEST - 1]),
+        _ => rng.pick(&[65_537, MAX_SIZE - 1]),
     };
     fields
         .iter()
@@ -61,9 +61,9 @@ fn damage_config(rng: &mut Rng, config: &mut [u8]) {
     let field = rng.below(13) as usize;
     if field == 12 {
         let size = rng.pick(&[
-            LARGEST + 1,
-            LARGEST + 1,
-            LARGEST + (1 << 32),
+            MAX_SIZE + 1,
+            MAX_SIZE + 1,
+            MAX_SIZE + (1 << 32),
             65_536 + (1 << 32),
             1 << 32,
             1 << 40,
@@ -231,8 +231,8 @@ fn config_by_hand(rng: &mut Rng) -> host::Config {
         ]),
         4 => rng.next(),
         5 => rng.pick(&[65_535, 65_536, 65_536, 65_537]),
-        6 => LARGEST,
-        _ => rng.pick(&[LARGEST - 1, LARGEST + 1]),
+        6 => MAX_SIZE,
+        _ => rng.pick(&[MAX_SIZE - 1, MAX_SIZE + 1]),
     };
     host::Config { fields, size }
 }

@@ -304,15 +304,15 @@ impl Claimed {
             Hash | Mac => self.written == kept,
             Aead => {
                 // Ticket K4: a decrypted source ends in the tag, an encrypted destination does.
-                // Ticket K12: the payload is the one of the two without a tag.
-                let (destination, payload) = match live.session.direction {
-                    2 => (self.source.checked_sub(kept), self.written),
-                    _ => (Some(self.source + kept), self.source),
+                // Ticket K12: the payload is the one of the two without the tag.
+                let (payload, destination) = match live.session.direction {
+                    2 => (self.written, self.source.checked_sub(kept)),
+                    _ => (self.source, Some(self.source + kept)),
                 };
                 self.tag == kept
                     && self.aad == live.session.aad.into()
                     && destination == Some(self.written)
-                    && live.algorithm.payload_fits(self.iv, payload)
+                    && live.algorithm.payload_allowed(self.iv, payload)
             }
         };
         within

@@ -1,5 +1,4 @@
-//! The scope paper's rules per algorithm, as one list, with ticket K12's bound for CCM. The
-//! numbers are document 001's.
+//! The scope paper's rules per algorithm, as one list. The numbers are document 001's.
 
 use Service::*;
 
@@ -54,25 +53,22 @@ pub struct Algorithm {
     pub number: u64,
     pub key: Lengths,
     pub iv: Lengths,
-    /// For AEAD decryption the tag sets a least length too.
+    /// The tag sets a least length too, for AEAD decryption, and the IV a greatest, for CCM.
     pub source: Lengths,
     /// A hash or MAC result, or an AEAD tag.
     pub result: Lengths,
 }
 
 impl Algorithm {
-    /// Ticket K12: a CCM payload is below 256 to the power (15 less the IV's length).
-    pub fn payload_fits(&self, iv: u64, payload: u64) -> bool {
-        if (self.service, self.number) != (Aead, CCM) {
-            return true;
+    /// Ticket K12: a CCM payload is below 256 to the power (15 minus IV length).
+    pub fn payload_allowed(&self, iv: u64, payload: u64) -> bool {
+        match (self.service, self.number) {
+            (Aead, 2) => iv <= 15 && u128::from(payload) < 256u128.pow(15 - iv as u32),
+            _ => true,
         }
-        // An IV of 7 makes it 2 to the 64, past 64 bits; one above 15 fails its own rule too.
-        let power = 15u64.checked_sub(iv);
-        power.is_some_and(|power| u128::from(payload) < 256u128.pow(power as u32))
     }
 }
 
-pub const CCM: u64 = 2;
 const AES: Lengths = Lengths::OneOf(&[16, 24, 32]);
 
 const fn cipher(number: u64, key: Lengths, iv: &'static [u64], source: Lengths) -> Algorithm {
@@ -141,11 +137,6 @@ pub static ALGORITHMS: [Algorithm; 21] = [
     mac(6, Lengths::Between(1, 64), 64),
     mac(26, AES, 16),
     aead(1, AES, Lengths::OneOf(&[12]), &[4, 8, 12, 13, 14, 15, 16]),
-    aead(
-        CCM,
-        AES,
-        Lengths::Between(7, 13),
-        &[4, 6, 8, 10, 12, 14, 16],
-    ),
+    aead(2, AES, Lengths::Between(7, 13), &[4, 6, 8, 10, 12, 14, 16]),
     aead(3, Lengths::OneOf(&[32]), Lengths::OneOf(&[12]), &[16]),
 ];

@@ -1,6 +1,6 @@
 //! The second program: the rules of the crypto device once more, written from the papers alone.
-//! It follows the scope paper, as tickets K4 and K12 amend it, section by section; answers have
-//! the numbers of its first table.
+//! It follows the scope paper, as tickets K4 and K12 amend it, section by section; answers have the
+//! numbers of its first table.
 
 use crate::rules::Service::*;
 use crate::rules::{Algorithm, Service, ALGORITHMS};
@@ -11,9 +11,9 @@ pub const GUESTS: usize = 8;
 pub const AREA: usize = 128;
 pub const STORE: usize = SLOTS * AREA;
 pub const CONFIG: usize = 56;
-/// The largest max_size that a set-up accepts, of ticket K12.
-pub const LARGEST: u64 = 1_048_576;
-/// The last session number that a guest can be given, of ticket K12.
+/// The most that max_size may be, from ticket K12.
+pub const MAX_SIZE: u64 = 1_048_576;
+/// The last session number that a guest can be given, from ticket K12.
 pub const LAST: u64 = 18_446_744_073_709_551_615;
 
 // ---- Answer numbers ----
@@ -78,7 +78,7 @@ impl Config {
             && cipher_key <= 64
             && auth_key <= 64
             && reserved == 0
-            && self.max_size <= LARGEST
+            && self.max_size <= MAX_SIZE
     }
 
     fn mask(&self, service: Service) -> u64 {

@@ -1,6 +1,6 @@
 //! The scope paper's replay: a trace read whole, then run on the second program.
 
-use crate::second::{answer, set_up, word, GUESTS, LARGEST, STORE};
+use crate::second::{answer, set_up, word, GUESTS, MAX_SIZE, STORE};
 
 #[derive(Clone, Copy, PartialEq)]
 pub enum Kind {
@@ -56,7 +56,7 @@ pub fn largest_config() -> Vec<u8> {
     fields
         .iter()
         .flat_map(|field| field.to_le_bytes())
-        .chain(LARGEST.to_le_bytes())
+        .chain(MAX_SIZE.to_le_bytes())
         .collect()
 }
 

@@ -134,8 +134,9 @@ struct Lengths {
     result: u32,
 }
 
-// IV, source and payload lengths of a cipher or AEAD, by the rules.
+// IV and source lengths of a cipher or AEAD, by the rules; a CCM payload is below 256 to the power (15 minus IV length).
 fn lengths_ok(s: &Slot, n: &Lengths) -> bool {
+    let payload = if s.direction == 2 { n.written } else { n.source };
     match (s.service, s.algo) {
         (CIPHER, 2) => n.iv == 0 && n.source % 16 == 0,
         (CIPHER, 3) => n.iv == 16 && n.source % 16 == 0,
@@ -143,16 +144,7 @@ fn lengths_ok(s: &Slot, n: &Lengths) -> bool {
         (CIPHER, 8) => n.iv == 8 && n.source % 8 == 0,
         (CIPHER, 13) => n.iv == 16 && n.source >= 16,
         (AEAD, 1 | 3) => n.iv == 12,
-        // Ticket K12: the payload is below 256 to the power (15 less the IV), which 32 bits can reach only with IV 12 or 13.
-        (AEAD, 2) => {
-            let payload = if s.direction == 2 { n.written } else { n.source };
-            match n.iv {
-                7..=11 => true,
-                12 => payload < 1 << 24,
-                13 => payload < 1 << 16,
-                _ => false,
-            }
-        }
+        (AEAD, 2) => (7..=13).contains(&n.iv) && u128::from(payload) < 1 << (8 * (15 - n.iv)),
         _ => true,
     }
 }
