@@ -36,7 +36,7 @@ enum {
     VCRYPTO_SLOTS = 128,
     VCRYPTO_STORE_SIZE = 16384,
     VCRYPTO_CONFIG_SIZE = 56,
-    VCRYPTO_TABLE_SIZE = 3256
+    VCRYPTO_TABLE_SIZE = 3272
 };
 
 /* virtio_crypto_config, field by field. */
@@ -56,11 +56,17 @@ struct vcrypto_config {
     uint64_t size;
 };
 
-/* A session, or all zero where the slot is free. `result` is a hash or MAC result, or an AEAD tag. */
+/* Which slots are held: slot s by bit s of `low` for s up to 63, and by bit s - 64 of `high` from there on. */
+struct vcrypto_occupied {
+    uint64_t low;
+    uint64_t high;
+};
+
+/* A session. What the fields of a slot hold whose bit is clear means nothing; a slot that is freed is left all zero.
+ * `result` is a hash or MAC result, or an AEAD tag. */
 struct vcrypto_slot {
     uint64_t number;
     uint32_t aad;
-    bool held;
     uint8_t owner;
     uint8_t service;
     uint8_t algo;
@@ -79,6 +85,7 @@ struct vcrypto_guest {
 
 struct vcrypto_table {
     struct vcrypto_config config;
+    struct vcrypto_occupied occupied;
     struct vcrypto_slot slots[VCRYPTO_SLOTS];
     struct vcrypto_guest guests[VCRYPTO_GUESTS];
 };

@@ -11,7 +11,6 @@ struct Config {
 struct Slot {
     number: u64,
     aad: u32,
-    held: bool,
     owner: u8,
     service: u8,
     algo: u8,
@@ -33,6 +32,7 @@ struct Guest {
 #[repr(C)]
 struct Table {
     config: Config,
+    occupied: [u64; 2],
     slots: [Slot; 128],
     guests: [Guest; 8],
 }
@@ -131,7 +131,8 @@ fn main() {
     assert_eq!(outcome, [1, 0, 0, 0, 0, 0, 0, 0, 0, 0, 0, 0, 0, 0, 0, 0]);
 
     let slot = r.table.slots[0];
-    assert!(slot.held && slot.owner == 7 && slot.number == 1 && slot.service == 2 && slot.algo == 4 && slot.keylen == 40 && slot.result == 32);
+    assert_eq!(r.table.occupied, [1, 0]);
+    assert!(slot.owner == 7 && slot.number == 1 && slot.service == 2 && slot.algo == 4 && slot.keylen == 40 && slot.result == 32);
     assert!(slot.direction == 0 && slot.aad == 0);
     let guest = r.table.guests[7];
     assert!(guest.attached && guest.reserve == 8 && guest.cap == 32 && guest.last == 1);

@@ -290,6 +290,7 @@ fn compare(second: &Outcome<'_>, device: &Outcome<'_>) -> Result<(), String> {
     if let (Some(ours), Some(theirs)) = (&second.table, &device.table) {
         if ours != theirs {
             same("config", &ours.config, &theirs.config)?;
+            same("occupied", &ours.occupied, &theirs.occupied)?;
             same_each("slot", &ours.slots, &theirs.slots)?;
             same_each("guest", &ours.guests, &theirs.guests)?;
         }

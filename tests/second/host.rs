@@ -15,7 +15,6 @@ pub struct Config {
 pub struct Slot {
     pub number: u64,
     pub aad: u32,
-    pub held: bool,
     pub owner: u8,
     pub service: u8,
     pub algo: u8,
@@ -37,6 +36,8 @@ pub struct Guest {
 #[derive(Clone, Copy, Debug, PartialEq)]
 pub struct Table {
     pub config: Config,
+    /// Slot s is held if bit s % 64 of word s / 64 is set.
+    pub occupied: [u64; 2],
     pub slots: [Slot; SLOTS],
     pub guests: [Guest; GUESTS],
 }
@@ -261,10 +262,10 @@ impl Table {
             fields: [0; 12],
             size: 0,
         },
+        occupied: [0; 2],
         slots: [Slot {
             number: 0,
             aad: 0,
-            held: false,
             owner: 0,
             service: 0,
             algo: 0,
@@ -280,6 +281,18 @@ impl Table {
         }; GUESTS],
     };
 
+    pub fn held(&self, place: usize) -> bool {
+        self.occupied[place / 64] >> (place % 64) & 1 == 1
+    }
+
+    pub fn mark(&mut self, place: usize, held: bool) {
+        let bit = 1 << (place % 64);
+        self.occupied[place / 64] &= !bit;
+        if held {
+            self.occupied[place / 64] |= bit;
+        }
+    }
+
     pub fn to_second(&self) -> second::Table {
         let guest = |g: &Guest| second::Guest {
             attached: g.attached,
@@ -292,10 +305,8 @@ impl Table {
                 fields: self.config.fields,
                 max_size: self.config.size,
             },
-            slots: self
-                .slots
-                .iter()
-                .map(|slot| slot.held.then(|| slot.to_second()))
+            slots: (0..SLOTS)
+                .map(|place| self.held(place).then(|| self.slots[place].to_second()))
                 .collect(),
             guests: self.guests.iter().map(guest).collect(),
         }
@@ -309,12 +320,13 @@ impl Table {
             fields: second.config.fields,
             size: second.config.max_size,
         };
-        for (slot, held) in table.slots.iter_mut().zip(&second.slots) {
+        for (place, held) in second.slots.iter().enumerate() {
             match held {
-                Some(session) => *slot = Slot::from_second(session, true),
-                None if slot.held => *slot = Slot::default(),
+                Some(session) => table.slots[place] = Slot::from_second(session),
+                None if self.held(place) => table.slots[place] = Slot::default(),
                 None => {}
             }
+            table.mark(place, held.is_some());
         }
         for (guest, g) in table.guests.iter_mut().zip(&second.guests) {
             *guest = Guest {
@@ -342,11 +354,10 @@ impl Slot {
         }
     }
 
-    pub fn from_second(session: &second::Session, held: bool) -> Slot {
+    pub fn from_second(session: &second::Session) -> Slot {
         Slot {
             number: session.number,
             aad: session.aad,
-            held,
             owner: session.owner,
             service: session.service,
             algo: session.algo,

@@ -175,17 +175,29 @@ pub fn by_hand(rng: &mut Rng) -> host::Table {
     let few = rng.one_in(3).then(|| rng.below(8));
     for place in 0..SLOTS {
         let held = rng.below(128) < filled;
+        table.mark(place, held);
         if held || rng.one_in(8) {
             let owner = few
                 .filter(|_| !rng.one_in(4))
                 .unwrap_or_else(|| rng.below(8));
             let session = invented(rng, owner as u8, table.guests[owner as usize].last);
             let slot = &mut table.slots[place];
-            *slot = host::Slot::from_second(&session, held);
+            *slot = host::Slot::from_second(&session);
             if rng.one_in(odd) {
                 odd_field(rng, slot);
             }
         }
+    }
+    // marks set and cleared whatever the fields hold: one, a word of them, all, all but the last
+    let one = 1 << rng.below(64);
+    match rng.below(16) {
+        0 => table.occupied[0] ^= one,
+        1 => table.occupied[1] ^= one,
+        2 => table.occupied[0] = u64::MAX,
+        3 => table.occupied[1] = u64::MAX,
+        4 => table.occupied = [u64::MAX; 2],
+        5 => table.occupied = [u64::MAX, u64::MAX >> 1],
+        _ => {}
     }
     table
 }

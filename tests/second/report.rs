@@ -122,6 +122,7 @@ pub fn account(
     };
     text += &format!("store of {} bytes\n", state.store.len());
     text += &format!("{:?}\n", state.table.config);
+    text += &format!("occupied {:#x?}\n", state.table.occupied);
     for (place, guest) in state.table.guests.iter().enumerate() {
         text += &format!("guest {place} {guest:?}\n");
     }

@@ -1,6 +1,6 @@
 //! The second program: the rules of the crypto device once more, written from the papers alone.
 //! It follows the scope paper, as tickets K4 and K12 amend it, section by section; answers have the
-//! numbers of its first table.
+//! numbers of its first table. Ticket K2 changes no answer: its bits are read in the host's table.
 
 use crate::rules::Service::*;
 use crate::rules::{Algorithm, Service, ALGORITHMS};

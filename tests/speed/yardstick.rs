@@ -1,8 +1,11 @@
-// The yardstick: data admission and finish as one would write them in ordinary Rust, from paper 01 and tickets K4 and K12 alone. The table is
+// The yardstick: data admission, finish and control in ordinary Rust, written from paper 01 and tickets K2, K4 and K12 alone. The table is
 // passed by value, as the library's is; the forms that end in `_ref` take it by reference.
 use std::slice::{from_raw_parts, from_raw_parts_mut};
 
-#[derive(Clone, Copy)]
+mod control;
+pub use control::{yard_control, Reply};
+
+#[derive(Clone, Copy, PartialEq, Debug)]
 #[repr(C)]
 pub struct Config {
     pub services: u32,
@@ -16,12 +19,11 @@ pub struct Config {
     pub max_size: u64,
 }
 
-#[derive(Clone, Copy)]
+#[derive(Clone, Copy, PartialEq, Debug)]
 #[repr(C)]
 pub struct Slot {
     pub number: u64,
     pub aad: u32,
-    pub held: bool,
     pub owner: u8,
     pub service: u8,
     pub algo: u8,
@@ -30,7 +32,7 @@ pub struct Slot {
     pub result: u8,
 }
 
-#[derive(Clone, Copy)]
+#[derive(Clone, Copy, PartialEq, Debug)]
 #[repr(C)]
 pub struct Guest {
     pub last: u64,
@@ -39,10 +41,12 @@ pub struct Guest {
     pub cap: u8,
 }
 
-#[derive(Clone, Copy)]
+// Slot s is held exactly if bit s % 64 of word s / 64 is set; the fields of a clear slot mean nothing.
+#[derive(Clone, Copy, PartialEq, Debug)]
 #[repr(C)]
 pub struct Table {
     pub config: Config,
+    pub occupied: [u64; 2],
     pub slots: [Slot; 128],
     pub guests: [Guest; 8],
 }
@@ -63,67 +67,100 @@ const ERR: u8 = 1;
 const BADMSG: u8 = 2;
 const NOTSUPP: u8 = 3;
 const INVSESS: u8 = 4;
+const NOSPC: u8 = 5;
 const BAD_GUEST: u8 = 16;
 const NO_OUTCOME: u8 = 17;
+const BAD_STORE: u8 = 18;
 
 const CIPHER: u8 = 0;
 const HASH: u8 = 1;
 const MAC: u8 = 2;
 const AEAD: u8 = 3;
 
-const DIGESTS: [u8; 7] = [0, 16, 20, 28, 32, 48, 64];
+// The algorithms that stand in the rules, by service.
+const KNOWN: [u32; 4] = [1 << 2 | 1 << 3 | 1 << 4 | 1 << 8 | 1 << 13, 0x7e, 0x7e | 1 << 26, 0xe];
+const DIGESTS: [u32; 7] = [0, 16, 20, 28, 32, 48, 64];
 
-fn bit(mask: u32, n: u8) -> bool {
+fn bit(mask: u32, n: u32) -> bool {
     n < 32 && mask >> n & 1 == 1
+}
+
+// A session's fields in the width of the wire, so that 256 + 3 is not taken for 3.
+struct Fields {
+    service: u8,
+    algo: u32,
+    direction: u32,
+    key_len: u32,
+    result: u32,
+    aad: u32,
+}
+
+// The algorithm stands in the rules, and its bit and its service's bit are set.
+fn offered(k: &Config, f: &Fields) -> bool {
+    let mask = match f.service {
+        CIPHER => k.ciphers,
+        HASH => k.hashes,
+        MAC => k.macs,
+        AEAD => k.aeads,
+        _ => return false,
+    };
+    bit(k.services, f.service.into()) && bit(mask & KNOWN[usize::from(f.service)], f.algo)
+}
+
+// Direction and lengths keep the rules of the algorithm and the key limits.
+fn fits(k: &Config, f: &Fields) -> bool {
+    let aes = matches!(f.key_len, 16 | 24 | 32);
+    let lengths = match (f.service, f.algo) {
+        (CIPHER, 2..=4) => aes,
+        (CIPHER, 8) => f.key_len == 24,
+        (CIPHER, 13) => f.key_len == 32 || f.key_len == 64,
+        (HASH, 1..=6) => (1..=DIGESTS[f.algo as usize]).contains(&f.result),
+        (MAC, 1..=6) => (1..=64).contains(&f.key_len) && (1..=DIGESTS[f.algo as usize]).contains(&f.result),
+        (MAC, 26) => aes && (1..=16).contains(&f.result),
+        (AEAD, 1) => aes && matches!(f.result, 4 | 8 | 12..=16),
+        (AEAD, 2) => aes && matches!(f.result, 4 | 6 | 8 | 10 | 12 | 14 | 16),
+        (AEAD, 3) => f.key_len == 32 && f.result == 16,
+        _ => false,
+    };
+    let direction = f.direction == 1 || f.direction == 2;
+    lengths
+        && match f.service {
+            HASH => true,
+            MAC => f.key_len <= k.auth_key_limit,
+            _ => direction && f.key_len <= k.cipher_key_limit,
+        }
 }
 
 // The slot's fields pass step 4 of a create.
 fn accepted(k: &Config, s: &Slot) -> bool {
-    let direction = s.direction == 1 || s.direction == 2;
-    let aes = matches!(s.key_len, 16 | 24 | 32);
-    bit(k.services, s.service)
-        && match s.service {
-            CIPHER => {
-                let key = match s.algo {
-                    2..=4 => aes,
-                    8 => s.key_len == 24,
-                    13 => s.key_len == 32 || s.key_len == 64,
-                    _ => false,
-                };
-                bit(k.ciphers, s.algo) && direction && key && u32::from(s.key_len) <= k.cipher_key_limit
-            }
-            HASH => matches!(s.algo, 1..=6) && bit(k.hashes, s.algo) && (1..=DIGESTS[s.algo as usize]).contains(&s.result),
-            MAC => {
-                let fits = match s.algo {
-                    1..=6 => (1..=64).contains(&s.key_len) && (1..=DIGESTS[s.algo as usize]).contains(&s.result),
-                    26 => aes && (1..=16).contains(&s.result),
-                    _ => false,
-                };
-                bit(k.macs, s.algo) && fits && u32::from(s.key_len) <= k.auth_key_limit
-            }
-            AEAD => {
-                let fits = match s.algo {
-                    1 => aes && matches!(s.result, 4 | 8 | 12..=16),
-                    2 => aes && matches!(s.result, 4 | 6 | 8 | 10 | 12 | 14 | 16),
-                    3 => s.key_len == 32 && s.result == 16,
-                    _ => false,
-                };
-                bit(k.aeads, s.algo) && direction && fits && u32::from(s.key_len) <= k.cipher_key_limit
-            }
-            _ => false,
-        }
+    let (algo, direction, key_len, result) = (s.algo.into(), s.direction.into(), s.key_len.into(), s.result.into());
+    let f = Fields { service: s.service, algo, direction, key_len, result, aad: s.aad };
+    offered(k, &f) && fits(k, &f)
 }
 
-// The live session of a number: the lowest slot that matches.
-fn find<'a>(t: &'a Table, g: &Guest, guest: u8, number: u64) -> Option<&'a Slot> {
+fn attached(t: &Table, guest: u8) -> Option<&Guest> {
+    t.guests.get(usize::from(guest)).filter(|g| g.attached)
+}
+
+fn held(t: &Table, slot: usize) -> bool {
+    t.occupied[slot / 64] >> (slot % 64) & 1 == 1
+}
+
+// The slot of a number's live session: the lowest that matches. The number comes first, as it rules out the most.
+fn find(t: &Table, g: &Guest, guest: u8, number: u64) -> Option<usize> {
     if number == 0 || number > g.last {
         return None;
     }
-    t.slots.iter().find(|s| s.number == number && s.held && s.owner == guest && accepted(&t.config, s))
+    let live = |(i, s): (usize, &Slot)| s.number == number && held(t, i) && s.owner == guest && accepted(&t.config, s);
+    t.slots.iter().enumerate().position(live)
 }
 
 fn le32(r: &[u8], at: usize) -> u32 {
     u32::from_le_bytes(r[at..at + 4].try_into().unwrap())
+}
+
+fn le64(r: &[u8], at: usize) -> u64 {
+    u64::from_le_bytes(r[at..at + 8].try_into().unwrap())
 }
 
 struct Lengths {
@@ -152,9 +189,7 @@ fn lengths_ok(s: &Slot, n: &Lengths) -> bool {
 // The checks in paper 01's order: the session number and opcode of an accepted request, or the refusal's number.
 #[inline(always)]
 fn judge(t: &Table, guest: u8, r: &[u8], room: usize) -> Result<(u64, u32), u8> {
-    let Some(g) = t.guests.get(usize::from(guest)).filter(|g| g.attached) else {
-        return Err(BAD_GUEST);
-    };
+    let g = attached(t, guest).ok_or(BAD_GUEST)?;
     if room == 0 {
         return Err(NO_OUTCOME);
     }
@@ -171,7 +206,7 @@ fn judge(t: &Table, guest: u8, r: &[u8], room: usize) -> Result<(u64, u32), u8> 
         0x301 => (AEAD, 2),
         _ => return Err(NOTSUPP),
     };
-    if !bit(t.config.services, service) {
+    if !bit(t.config.services, service.into()) {
         return Err(NOTSUPP);
     }
     match le32(r, 16) {
@@ -179,8 +214,8 @@ fn judge(t: &Table, guest: u8, r: &[u8], room: usize) -> Result<(u64, u32), u8> 
         1 => {}
         _ => return Err(ERR),
     }
-    let number = u64::from_le_bytes(r[8..16].try_into().unwrap());
-    let s = find(t, g, guest, number).ok_or(INVSESS)?;
+    let number = le64(r, 8);
+    let s = &t.slots[find(t, g, guest, number).ok_or(INVSESS)?];
     if s.service != service || (direction != 0 && s.direction != direction) {
         return Err(INVSESS);
     }
@@ -235,7 +270,7 @@ fn admit(t: &Table, guest: u8, readable: &[u8], writable: &mut [u8]) -> Admissio
 
 #[inline(always)]
 fn finish(t: &Table, guest: u8, opcode: u32, verdict: u8, writable: &mut [u8]) -> u8 {
-    if !t.guests.get(usize::from(guest)).is_some_and(|g| g.attached) {
+    if attached(t, guest).is_none() {
         return BAD_GUEST;
     }
     let Some(last) = writable.last_mut() else {

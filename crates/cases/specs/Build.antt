@@ -3,9 +3,10 @@
 use Prim.Native.Nat.{ℕ, _+_}
 use mathlib.Core.List.{List, _++_}
 use lib.ListN.{replicate}
+use Rattle.model.specs.declared.Table.{Table}
 use Rattle.model.specs.Bytes.{le}
 use Rattle.model.specs.Session.{storeSize, World}
-use Rattle.model.specs.Setup.{sizeLimit, setUp}
+use Rattle.model.specs.Setup.{sizeLimit, configOf, setUp}
 use Rattle.model.specs.Device.{Request, Control, Admit}
 
 -- a configuration that offers everything, with the largest limits
@@ -16,6 +17,10 @@ offer =
 -- set up with it, every guest with this reserve and cap
 abbrev pub world : ℕ → ℕ → World
 world reserve cap = setUp offer (replicate 8 reserve) (replicate 8 cap) (replicate storeSize 0)
+
+-- a table with another configuration, put there by hand
+abbrev pub configured : List ℕ → Table → Table
+configured k t = record { config = configOf k; occupied = t .occupied; slots = t .slots; guests = t .guests }
 
 -- ---- control requests
 

@@ -14,14 +14,14 @@ use Rattle.model.specs.Answer.{firstFail, controlOutcome, dataOutcome, controlB
 use Rattle.model.specs.Algorithm.{known, keyOk, resultOk, ivOk, sourceOk, decryptedOk, writtenOk, payloadOk}
 use Rattle.model.specs.declared.Field.the-variants.{Iv, Source, Aad}
 use Rattle.model.specs.declared.Session.{Session}
-use Rattle.model.specs.Session.{storeSize, lastNumber, World, Place, free, holding, slotOf, slotsOf, newGuest, guestAt, area, zeros, keyStart, keyArea, areaOf, keyLen, keyOf, bit, offers, directionOk, lengthsOk, accepts}
+use Rattle.model.specs.Session.{storeSize, lastNumber, World, Place, free, holding, slotOf, bitsOf, wordOf, marksOf, occupiedBy, slotsOf, withSlots, newGuest, guestAt, area, zeros, keyStart, keyArea, areaOf, keyLen, keyOf, bit, offers, directionOk, lengthsOk, accepts}
 use Rattle.model.specs.View.{present, find, noRoom, full, holds, total}
 use Rattle.model.specs.Act.{withSlot, without, withGuest, restarted, numbered, tableAfter, storeAfter, withArea, wipe}
 use Rattle.model.specs.Setup.{configOf, onlyBits, configOk, sharesOk, setUpAnswer, freshTable, setUp}
 use Rattle.model.specs.Control.{opcodeOk, asked, newEntry, controlChecks}
 use Rattle.model.specs.Data.{operationOk, lengths, fits, partOf, status}
 use Rattle.model.specs.Device.{Request, Attach, Control, Admit, Part, KeyAnswer, Key, Finish, checksOf, outcome, checks, act, reply, next}
-use Rattle.cases.specs.Build.{offer, world, head, cipherCreate, hashCreate, macCreate, aeadCreate, destroySession, start, cipherData, hashData, aeadData, asking, ending, sending}
+use Rattle.cases.specs.Build.{offer, world, configured, head, cipherCreate, hashCreate, macCreate, aeadCreate, destroySession, start, cipherData, hashData, aeadData, asking, ending, sending}
 
 -- ---- facts, and how they are run
 
@@ -464,11 +464,11 @@ guest0 reserve cap last = by (λ t. withGuest t 0 (record { attached = true; res
 
 -- every slot held by guest g
 abbrev filled : ℕ → Fact → Fact
-filled g = by (λ t. record { config = t .config; slots = replicate 128 (slotOf (holding g 9 hmac)); guests = t .guests })
+filled g = by (λ t. withSlots t (replicate 128 (holding g 9 hmac)))
 
 -- another configuration
 abbrev offering : List ℕ → Fact → Fact
-offering k = by (λ t. record { config = configOf k; slots = t .slots; guests = t .guests })
+offering k = by (configured k)
 
 abbrev byHand : List Fact
 byHand =
@@ -572,7 +572,7 @@ byHand =
 
 -- guest 1 holds every slot but the last
 abbrev oneFree : Fact → Fact
-oneFree = by (λ t. record { config = t .config; slots = replicate 127 (slotOf (holding 1 9 hmac)) ++ slotOf free ∷ []; guests = t .guests })
+oneFree = by (λ t. withSlots t (replicate 127 (holding 1 9 hmac) ++ free ∷ []))
 
 abbrev crowd : List Fact
 crowd =
@@ -616,5 +616,5 @@ pub facts :
     ++ failing 400 attached crowd
     ++ failing 500 contended contest
     ≡ []
-unfolding le le32 le64 part padded firstFail controlOutcome dataOutcome controlBytes dataBytes known keyOk resultOk ivOk sourceOk decryptedOk writtenOk payloadOk slotOf slotsOf newGuest keyStart keyArea areaOf keyLen keyOf bit offers directionOk lengthsOk accepts present find noRoom full withSlot without withGuest restarted numbered tableAfter storeAfter withArea wipe configOf onlyBits configOk sharesOk setUpAnswer freshTable setUp opcodeOk asked newEntry controlChecks operationOk lengths fits partOf status checksOf outcome checks act reply next sumTo
+unfolding le le32 le64 part padded firstFail controlOutcome dataOutcome controlBytes dataBytes known keyOk resultOk ivOk sourceOk decryptedOk writtenOk payloadOk slotOf bitsOf wordOf marksOf occupiedBy slotsOf withSlots newGuest keyStart keyArea areaOf keyLen keyOf bit offers directionOk lengthsOk accepts present find noRoom full withSlot without withGuest restarted numbered tableAfter storeAfter withArea wipe configOf onlyBits configOk sharesOk setUpAnswer freshTable setUp opcodeOk asked newEntry controlChecks operationOk lengths fits partOf status checksOf outcome checks act reply next sumTo
 facts = refl

@@ -15,13 +15,13 @@ use Rattle.model.specs.declared.Table.{Table}
 use Rattle.model.specs.declared.Guest.{Guest}
 use Rattle.model.specs.Session.{slotCount, areaSize, storeSize, World, Place, free, holding, slotsOf, guestAt, zeros}
 use Rattle.model.specs.View.{isFree, isHeld, owned, live, freeAt, liveAt, holds, total, unmet, full, entryAt, find, view, setting}
-use Rattle.model.specs.Act.{Act, refuse, pass, attach, create, destroy, withSlot, without, withGuest, restarted, numbered, tableAfter, storeAfter, withArea, wipe, after}
+use Rattle.model.specs.Act.{Act, refuse, pass, attach, create, destroy, withSlot, released, without, withGuest, restarted, numbered, tableAfter, storeAfter, withArea, wipe, after}
 use Rattle.history.specs.Cells as Cells
 use Rattle.history.specs.Cells.{Cell, State, stored, noCell}
 use Rattle.history.specs.Apply.{apply, release}
 use Rattle.history.specs.Lawful.{Ready}
 use Rattle.history.specs.Invariant.{Inv, setting-apply}
-use Rattle.laws.specs.Slots.{released, slots-with, slots-without, slots-guest, rest-with, rest-without, rest-guest}
+use Rattle.laws.specs.Slots.{slots-with, slots-without, slots-guest, rest-with, rest-without, rest-guest}
 use Rattle.laws.specs.Areas.{put-flat, length-withArea, length-wipe}
 use Rattle.follows.specs.Areas.{cells, set-cells, getD-cells, wipe-cells, index-cells, count-cells, length-cells}
 

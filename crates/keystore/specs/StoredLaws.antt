@@ -16,7 +16,7 @@ use Rattle.lists.specs.Splice.{splice, splice-fits, splice-then}
 use Rattle.model.specs.declared.Session.{Session}
 use Rattle.model.specs.declared.Table.{Table}
 use Rattle.model.specs.Bytes.{part, padded}
-use Rattle.model.specs.Session.{World, Entry, free, slotOf, placeOf, slotsOf, zeros, keyArea, keyStart, keyLen}
+use Rattle.model.specs.Session.{World, Entry, free, slotOf, placeOf, marked, slotsOf, zeros, keyArea, keyStart, keyLen}
 use Rattle.model.specs.View.{owned, find, liveAt, isLive, sessionIn}
 use Rattle.model.specs.Act.{withArea, wipe}
 use Rattle.model.specs.Data.{keyBytes}
@@ -79,22 +79,23 @@ put-halves b b₁ b₂ i front back h k e₁ e₂ =
 
 -- ---- the areas of one guest
 
--- a loop over the slots: one more; cur is the store that it has, and out what it then has
-pub clear-more : (t : Table) (g i : ℕ) (b cur out : List ℕ) → length (t .slots) ≡ 128 → i < 128 → length b ≡ 16384 → length cur ≡ length b
+-- a loop over the slots: one more; cur is the store that it has, out what it then has, and held the mark that it found
+pub clear-more : (t : Table) (g i : ℕ) (held : Bool) (b cur out : List ℕ) → length (t .slots) ≡ 128 → i < 128 → length b ≡ 16384 → length cur ≡ length b
     → cur ≡ wipe (owned g) (take i (slotsOf t)) b
-    → out ≡ cond (owned g (placeOf (getD (t .slots) i (slotOf free)))) (stored cur i zeros) cur
+    → held ≡ marked (t .occupied) i
+    → out ≡ cond (owned g (placeOf held (getD (t .slots) i (slotOf free)))) (stored cur i zeros) cur
     → out ≡ wipe (owned g) (take (i + 1) (slotsOf t)) b
-clear-more t g i b cur out n h m k e f =
-    let s : length (slotsOf t) ≡ 128 = slots-length t ∙ n in
+clear-more t g i held b cur out n h m k e d f =
+    let s : length (slotsOf t) ≡ 128 = slots-length t n in
     wipe-more (owned g) (slotsOf t) b cur out i free (omega arith) (omega arith) e
-    (rw (place-at t i, ← stored-in cur i zeros (k ∙ m) h) f)
+    (rw (place-at t n i, ← d, ← stored-in cur i zeros (k ∙ m) h) f)
 
 -- all of them
 pub clear-done : (t : Table) (g i : ℕ) (b cur : List ℕ) → length (t .slots) ≡ 128 → 128 ≤ i → length b ≡ 16384
     → cur ≡ wipe (owned g) (take i (slotsOf t)) b → cur ≡ cleared b (wipe (owned g) (slotsOf t) b)
 unfolding cleared
 clear-done t g i b cur n h m e =
-    let s : length (slotsOf t) ≡ 128 = slots-length t ∙ n in
+    let s : length (slotsOf t) ≡ 128 = slots-length t n in
     rw (eq-eqb _ _ m) (rw (take-all i (slotsOf t) (omega arith)) at e)
 
 -- ---- the key of a session

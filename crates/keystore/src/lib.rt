@@ -78,10 +78,10 @@ pub fn clear_all(store: &mut [u8])
 }
 
 // Zeroes the area of slot i if c, what the slot holds, names the guest as owner.
-fn clear_owned(store: &mut [u8], i: usize, c: model::Slot, guest: u8)
-    ensures { λ _. ⌜ now (store .exit) ≡ cond (owned guest (placeOf c)) (stored (now (store .entry)) i zeros) (now (store .entry)) ⌝ }
+fn clear_owned(store: &mut [u8], i: usize, held: bool, c: model::Slot, guest: u8)
+    ensures { λ _. ⌜ now (store .exit) ≡ cond (owned guest (placeOf held c)) (stored (now (store .entry)) i zeros) (now (store .entry)) ⌝ }
 {
-    if table::owned_by(c, guest) {
+    if table::owned_by(held, c, guest) {
         clear_area(store, i);
     }
 }
@@ -93,10 +93,11 @@ pub fn clear_guest(store: &mut [u8], t: model::Table, guest: u8)
     if store.len() != model::STORE_SIZE {
         return;
     }
+    let o = t.occupied;
     let mut i: usize = 0;
     while i < 128 {
         let c = t.slots[i];
-        clear_owned(store, i, c, guest);
+        clear_owned(store, i, occupancy::is_held(o, i), c, guest);
         i += 1;
     }
 }

@@ -1,69 +1,106 @@
 -- What `withSlot`, `without` and `withGuest` do to the slots of a table, and how the table keeps them. Above this file the slots are known by
 -- these laws alone: another way to mark a held slot proves them anew, and nothing else.
 -- Assumes nothing.
-use mathlib.Core.Path.{_≡_, refl, sym, _∙_}
-use mathlib.Core.Bool.{Bool, true, false, cond}
+use mathlib.Core.Path.{_≡_, refl, sym, ap, _∙_}
+use mathlib.Core.Bool.{false, not}
 use mathlib.Core.List.{List, map}
-use Prim.Native.Nat.{ℕ}
-use lib.ListN.{length, set, getD, replicate, length-map}
-use Rattle.lists.specs.Seek.{map-set, map-map, map-same, map-replicate, getD-map}
-use Rattle.model.specs.declared.Guest.{Guest}
-use Rattle.model.specs.declared.Slot.{Slot}
-use Rattle.model.specs.declared.Table.{Table}
+use Prim.Native.Nat.{ℕ, _≤_, _<_, _^_}
+use native.Mathlib.Omega.{arith}
+use lib.ListN.{length, replicate, set, getD, length-map, length-set}
+use lib.Seq.{set-out}
+use Rattle.lists.specs.Seek.{count, index, map-set, zip-left, zip-right, zip-maps, length-zip, length-zip-le, getD-zip, count-map, index-map}
 use Rattle.model.specs.declared.Config.{Config}
-use Rattle.model.specs.Session.{slotCount, Place, free, slotOf, placeOf, slotsOf, placeAt}
-use Rattle.model.specs.View.{owned}
-use Rattle.model.specs.Act.{withSlot, without, withGuest}
+use Rattle.model.specs.declared.Guest.{Guest}
+use Rattle.model.specs.declared.Table.{Table}
+use Rattle.model.specs.Session.{slotCount, Place, free, slotOf, placeOf, bitsOf, marksOf, occupiedBy, marked, slotsOf, withSlots, placeAt}
+use Rattle.model.specs.View.{isHeld, isFree, total, freeAt}
+use Rattle.model.specs.Act.{withSlot, released, without, withGuest}
 use Rattle.model.specs.Setup.{freshTable}
+use Rattle.laws.specs.Bits.{length-marks, zip-marks, occupied-marks}
 
--- a slot freed if it names g as owner
-abbrev pub released : ℕ → Place → Place
-released g c = cond (owned g c) free c
+-- ---- slots that are kept come back
+
+length-le : (t : Table) → length (slotsOf t) ≤ 128
+unfolding slotsOf
+length-le t = omega (arith, length-zip-le placeOf (marksOf (t .occupied)) (t .slots), length-marks (t .occupied))
+
+pub slots-kept : (t : Table) (l : List Place) → length l ≤ 128 → slotsOf (withSlots t l) ≡ l
+unfolding slotsOf withSlots slotOf
+slots-kept t l h =
+    zip-marks placeOf (map isHeld l) (map slotOf l) (omega (arith, length-map l isHeld, length-map l slotOf)) (omega (arith, length-map l slotOf))
+    ∙ zip-maps placeOf isHeld slotOf (λ c. refl) l
 
 pub slots-with : (t : Table) (i : ℕ) (c : Place) → slotsOf (withSlot t i c) ≡ set (slotsOf t) i c
-unfolding slotsOf withSlot slotOf
-slots-with t i c = map-set placeOf (t .slots) i (slotOf c)
+unfolding withSlot
+slots-with t i c = slots-kept t (set (slotsOf t) i c) (omega (arith, length-set (slotsOf t) i c, length-le t))
 
 pub slots-without : (t : Table) (g : ℕ) → slotsOf (without t g) ≡ map (released g) (slotsOf t)
-unfolding slotsOf without slotOf
-slots-without t g =
-    map-map placeOf (λ c. cond (owned g (placeOf c)) (slotOf free) c) (t .slots)
-    ∙ map-same (λ c. placeOf (cond (owned g (placeOf c)) (slotOf free) c)) (λ c. released g (placeOf c)) same (t .slots)
-    ∙ sym (map-map (released g) placeOf (t .slots))
-  where
-    same : (c : Slot) → placeOf (cond (owned g (placeOf c)) (slotOf free) c) ≡ released g (placeOf c)
-    same c = go (owned g (placeOf c))
-      where
-        go : (b : Bool) → placeOf (cond b (slotOf free) c) ≡ cond b free (placeOf c)
-        go true = refl
-        go false = refl
+unfolding without
+slots-without t g = slots-kept t (map (released g) (slotsOf t)) (omega (arith, length-map (slotsOf t) (released g), length-le t))
 
 pub slots-guest : (t : Table) (g : ℕ) (r : Guest) → slotsOf (withGuest t g r) ≡ slotsOf t
 unfolding slotsOf withGuest
 slots-guest t g r = refl
 
+pub slots-fresh : (k : Config) (reserves caps : List ℕ) → slotsOf (freshTable k reserves caps) ≡ replicate slotCount free
+unfolding slotsOf freshTable slotOf marksOf bitsOf
+slots-fresh k reserves caps = refl
+
 -- the rest of the table stays
 pub rest-with : (t : Table) (i : ℕ) (c : Place) → (withSlot t i c .config ≡ t .config) × (withSlot t i c .guests ≡ t .guests)
-unfolding withSlot
+unfolding withSlot withSlots
 rest-with t i c = (refl, refl)
 
 pub rest-without : (t : Table) (g : ℕ) → (without t g .config ≡ t .config) × (without t g .guests ≡ t .guests)
-unfolding without
+unfolding without withSlots
 rest-without t g = (refl, refl)
 
 pub rest-guest : (t : Table) (g : ℕ) (r : Guest) → (withGuest t g r .config ≡ t .config) × (withGuest t g r .guests ≡ set (t .guests) g r)
 unfolding withGuest
 rest-guest t g r = (refl, refl)
 
-pub slots-fresh : (k : Config) (reserves caps : List ℕ) → slotsOf (freshTable k reserves caps) ≡ replicate slotCount free
-unfolding slotsOf freshTable slotOf
-slots-fresh k reserves caps = map-replicate placeOf slotCount (slotOf free)
+-- ---- a table of 128 slots, as the code reads it
 
-pub slots-length : (t : Table) → length (slotsOf t) ≡ length (t .slots)
-unfolding slotsOf
-slots-length t = length-map (t .slots) placeOf
+module _ (t : Table) (n : length (t .slots) ≡ 128) where
+  pub slots-length : length (slotsOf t) ≡ 128
+  unfolding slotsOf
+  slots-length = omega (arith, length-zip placeOf (marksOf (t .occupied)) (t .slots) (omega (arith, length-marks (t .occupied))))
 
--- slot i, as the code reads it
-pub place-at : (t : Table) (i : ℕ) → placeAt t i ≡ placeOf (getD (t .slots) i (slotOf free))
-unfolding slotsOf slotOf
-place-at t i = getD-map placeOf (t .slots) i (slotOf free)
+  -- slot i
+  pub place-at : (i : ℕ) → placeAt t i ≡ placeOf (marked (t .occupied) i) (getD (t .slots) i (slotOf free))
+  unfolding slotsOf slotOf
+  place-at i = getD-zip placeOf (marksOf (t .occupied)) (t .slots) i false (slotOf free) (omega (arith, length-marks (t .occupied)))
+
+  -- the marks and the fields apart
+  marks-kept : map isHeld (slotsOf t) ≡ marksOf (t .occupied)
+  unfolding slotsOf
+  marks-kept = zip-left placeOf isHeld (λ b c. refl) (marksOf (t .occupied)) (t .slots) (omega (arith, length-marks (t .occupied)))
+
+  fields-kept : map slotOf (slotsOf t) ≡ t .slots
+  unfolding slotsOf slotOf
+  fields-kept = zip-right placeOf slotOf (λ b c. refl) (marksOf (t .occupied)) (t .slots) (omega (arith, length-marks (t .occupied)))
+
+  -- what the marks alone tell
+  pub total-marks : total t ≡ count (λ b. b) (marksOf (t .occupied))
+  total-marks = sym (count-map (λ b. b) isHeld (slotsOf t)) ∙ ap (count (λ b. b)) marks-kept
+
+  pub free-marks : freeAt t ≡ index not (marksOf (t .occupied))
+  free-marks = sym (index-map not isHeld (slotsOf t)) ∙ ap (index not) marks-kept
+
+  -- a mark and its slot stored
+  pub stored-at : (i : ℕ) (c : Place)
+      → record { config = t .config; occupied = occupiedBy (set (marksOf (t .occupied)) i (c .held)); slots = set (t .slots) i (slotOf c); guests = t .guests } ≡ withSlot t i c
+  unfolding withSlot withSlots
+  stored-at i c =
+      rw (map-set isHeld (slotsOf t) i c, map-set slotOf (slotsOf t) i c, marks-kept, fields-kept) refl
+
+  -- words of 64 bits and the slots as they are
+  module _ (h : t .occupied .low < 2 ^ 64) (k : t .occupied .high < 2 ^ 64) where
+    pub slots-again : withSlots t (slotsOf t) ≡ t
+    unfolding withSlots
+    slots-again = rw (marks-kept, fields-kept, occupied-marks (t .occupied) h k) refl
+
+    -- past the end nothing is stored
+    pub stored-past : (i : ℕ) (c : Place) → 128 ≤ i → t ≡ withSlot t i c
+    unfolding withSlot
+    stored-past i c l = rw (set-out (slotsOf t) i c (omega (arith, slots-length))) (sym slots-again)

@@ -3,8 +3,9 @@
 use mathlib.Core.Path.{_≡_, refl, ap}
 use mathlib.Core.Bool.{Bool, true, false, cond, not, _&&_}
 use mathlib.Core.Option.{Option, none, some}
-use mathlib.Core.List.{List, [], _∷_, map}
+use mathlib.Core.List.{List, [], _∷_, _++_, map}
 use Prim.Native.Nat.{ℕ, zero, suc, _+_, _≤_, _<_}
+use native.Mathlib.Nat.{zero-add, suc-add}
 use native.Mathlib.Omega.{arith}
 use lib.ListN.{length, replicate, set, getD}
 
@@ -38,6 +39,13 @@ module _ {A : Type 0} where
   abbrev pub All : (A → Type 0) → List A → Type 0
   All P [] = Unit {0}
   All P (x ∷ xs) = P x × All P xs
+
+module _ {A B C : Type 0} where
+  -- f of the elements at the same place, as far as both lists go
+  abbrev pub zip : (A → B → C) → List A → List B → List C
+  zip f [] l = []
+  zip f (x ∷ xs) [] = []
+  zip f (x ∷ xs) (y ∷ ys) = f x y ∷ zip f xs ys
 
 -- ---- laws
 
@@ -160,10 +168,6 @@ module _ {A : Type 0} where
   count-none p [] a = refl
   count-none p (c ∷ cs) a = rw (a .0, count-none p cs (a .1))
 
-  pub count-map : (p : A → Bool) (f : A → A) (l : List A) → count p (map f l) ≡ count (λ c. p (f c)) l
-  count-map p f [] = refl
-  count-map p f (c ∷ cs) = ap (λ n. one (p (f c)) + n) (count-map p f cs)
-
   -- a map that the test q does not see
   pub first-map : (q : A → Bool) (f : A → A) → ((c : A) → q (f c) ≡ q c) → ((c : A) → q c ≡ true → f c ≡ c) → (l : List A) → first q (map f l) ≡ first q l
   first-map q f h k [] = refl
@@ -246,9 +250,46 @@ module _ {A : Type 0} where
       go true h ih = absurd (omega arith)
       go false h ih = ih (omega arith)
 
+  -- ---- two lists, one behind the other
+
+  pub count-append : (p : A → Bool) (l m : List A) → count p (l ++ m) ≡ count p l + count p m
+  count-append p [] m = omega arith
+  count-append p (c ∷ cs) m = omega (arith, count-append p cs m)
+
+  -- the search ends in the first, or goes on in the second
+  pub index-left : (p : A → Bool) (l m : List A) → index p l < length l → index p (l ++ m) ≡ index p l
+  index-left p [] m h = absurd (omega arith)
+  index-left p (c ∷ cs) m h = go (p c) h (index-left p cs m)
+    where
+      go : (b : Bool) → cond b 0 (suc (index p cs)) < suc (length cs)
+          → (index p cs < length cs → index p (cs ++ m) ≡ index p cs) → cond b 0 (suc (index p (cs ++ m))) ≡ cond b 0 (suc (index p cs))
+      go true h ih = refl
+      go false h ih = ap suc (ih (omega arith))
+
+  pub index-right : (p : A → Bool) (l m : List A) → length l ≤ index p l → index p (l ++ m) ≡ length l + index p m
+  index-right p [] m h = omega arith
+  index-right p (c ∷ cs) m h = go (p c) h (index-right p cs m)
+    where
+      go : (b : Bool) → suc (length cs) ≤ cond b 0 (suc (index p cs))
+          → (length cs ≤ index p cs → index p (cs ++ m) ≡ length cs + index p m) → cond b 0 (suc (index p (cs ++ m))) ≡ suc (length cs) + index p m
+      go true h ih = absurd (omega arith)
+      go false h ih = omega (arith, ih (omega arith))
+
+  pub set-append-right : (l m : List A) (i : ℕ) (x : A) → set (l ++ m) (length l + i) x ≡ l ++ set m i x
+  set-append-right [] m i x = rw zero-add
+  set-append-right (c ∷ cs) m i x = rw suc-add (ap (λ r. c ∷ r) (set-append-right cs m i x))
+
 -- ---- maps
 
 module _ {A B : Type 0} where
+  pub count-map : (p : B → Bool) (f : A → B) (l : List A) → count p (map f l) ≡ count (λ c. p (f c)) l
+  count-map p f [] = refl
+  count-map p f (c ∷ cs) = ap (λ n. one (p (f c)) + n) (count-map p f cs)
+
+  pub index-map : (p : B → Bool) (f : A → B) (l : List A) → index p (map f l) ≡ index (λ c. p (f c)) l
+  index-map p f [] = refl
+  index-map p f (c ∷ cs) = ap (λ n. cond (p (f c)) 0 (suc n)) (index-map p f cs)
+
   pub map-set : (f : A → B) (l : List A) (i : ℕ) (x : A) → map f (set l i x) ≡ set (map f l) i (f x)
   map-set f [] i x = refl
   map-set f (c ∷ cs) zero x = refl
@@ -271,3 +312,41 @@ module _ {A B : Type 0} where
 pub map-map : {A B C : Type 0} (f : B → C) (k : A → B) (l : List A) → map f (map k l) ≡ map (λ c. f (k c)) l
 map-map f k [] = refl
 map-map f k (c ∷ cs) = ap (λ l. f (k c) ∷ l) (map-map f k cs)
+
+-- ---- two lists, element by element
+
+module _ {A B C : Type 0} (f : A → B → C) where
+  -- what either list had
+  pub zip-left : (k : C → A) → ((x : A) (y : B) → k (f x y) ≡ x) → (l : List A) (m : List B) → length l ≤ length m → map k (zip f l m) ≡ l
+  zip-left k e [] m h = refl
+  zip-left k e (x ∷ l) [] h = absurd (omega arith)
+  zip-left k e (x ∷ l) (y ∷ m) h = rw (e x y, zip-left k e l m (omega arith))
+
+  pub zip-right : (k : C → B) → ((x : A) (y : B) → k (f x y) ≡ y) → (l : List A) (m : List B) → length m ≤ length l → map k (zip f l m) ≡ m
+  zip-right k e [] [] h = refl
+  zip-right k e [] (y ∷ m) h = absurd (omega arith)
+  zip-right k e (x ∷ l) [] h = refl
+  zip-right k e (x ∷ l) (y ∷ m) h = rw (e x y, zip-right k e l m (omega arith))
+
+  -- taken apart and put together again
+  pub zip-maps : (j : C → A) (k : C → B) → ((c : C) → f (j c) (k c) ≡ c) → (l : List C) → zip f (map j l) (map k l) ≡ l
+  zip-maps j k e [] = refl
+  zip-maps j k e (c ∷ l) = rw (e c, zip-maps j k e l)
+
+  pub length-zip : (l : List A) (m : List B) → length m ≤ length l → length (zip f l m) ≡ length m
+  length-zip [] [] h = refl
+  length-zip [] (y ∷ m) h = absurd (omega arith)
+  length-zip (x ∷ l) [] h = refl
+  length-zip (x ∷ l) (y ∷ m) h = ap suc (length-zip l m (omega arith))
+
+  pub length-zip-le : (l : List A) (m : List B) → length (zip f l m) ≤ length l
+  length-zip-le [] m = omega arith
+  length-zip-le (x ∷ l) [] = omega arith
+  length-zip-le (x ∷ l) (y ∷ m) = omega (arith, length-zip-le l m)
+
+  pub getD-zip : (l : List A) (m : List B) (i : ℕ) (d : A) (e : B) → length l ≡ length m → getD (zip f l m) i (f d e) ≡ f (getD l i d) (getD m i e)
+  getD-zip [] [] i d e h = refl
+  getD-zip [] (y ∷ m) i d e h = absurd (omega arith)
+  getD-zip (x ∷ l) [] i d e h = absurd (omega arith)
+  getD-zip (x ∷ l) (y ∷ m) zero d e h = refl
+  getD-zip (x ∷ l) (y ∷ m) (suc i) d e h = getD-zip l m i d e (omega arith)

@@ -7,7 +7,7 @@ use lib.ListN.{set, take, drop}
 use Rattle.model.specs.declared.Guest.{Guest}
 use Rattle.model.specs.declared.Table.{Table}
 use Rattle.model.specs.Answer.{ok, Check}
-use Rattle.model.specs.Session.{areaSize, World, Place, free, holding, slotOf, placeOf, slotsOf, guestAt, zeros, Entry}
+use Rattle.model.specs.Session.{areaSize, World, Place, free, holding, slotsOf, withSlots, guestAt, zeros, Entry}
 use Rattle.model.specs.View.{owned, freeAt, liveAt}
 
 pub data Act : Type 0 where
@@ -32,17 +32,20 @@ answerOf attach = ok
 answerOf (create e) = ok
 answerOf (destroy n) = ok
 
--- ---- the table; its slots are changed by `withSlot` and `without` alone
+-- ---- the table
 
 unfoldable pub withSlot : Table → ℕ → Place → Table
-withSlot t i c = record { config = t .config; slots = set (t .slots) i (slotOf c); guests = t .guests }
+withSlot t i c = withSlots t (set (slotsOf t) i c)
 
--- every slot that names g as owner freed, its fields cleared
+-- the slot freed, its fields cleared, if it names g as owner
+abbrev pub released : ℕ → Place → Place
+released g c = cond (owned g c) free c
+
 unfoldable pub without : Table → ℕ → Table
-without t g = record { config = t .config; slots = map (λ c. cond (owned g (placeOf c)) (slotOf free) c) (t .slots); guests = t .guests }
+without t g = withSlots t (map (released g) (slotsOf t))
 
 unfoldable pub withGuest : Table → ℕ → Guest → Table
-withGuest t g r = record { config = t .config; slots = t .slots; guests = set (t .guests) g r }
+withGuest t g r = record { config = t .config; occupied = t .occupied; slots = t .slots; guests = set (t .guests) g r }
 
 -- an attach restarts the guest's numbers, and a granted create takes the next
 unfoldable pub restarted : Guest → Guest

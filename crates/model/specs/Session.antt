@@ -1,11 +1,13 @@
 -- Paper 01, "The session table": what a slot, a guest and a key area hold, and which sessions can be.
-use Prim.Native.Nat.{ℕ, _*_, _/_, _%_, _^_}
+use Prim.Native.Nat.{ℕ, zero, suc, _+_, _*_, _/_, _%_, _^_}
 use mathlib.Core.Bool.{Bool, true, false, cond, not, _&&_, _||_}
-use mathlib.Core.List.{List, [], _++_, map}
+use mathlib.Core.List.{List, [], _∷_, _++_, map}
 use lib.Dec.{eqb, leb}
 use lib.ListN.{getD, replicate, take, drop}
+use Rattle.lists.specs.Seek.{one, zip}
 use Rattle.model.specs.declared.Config.{Config}
 use Rattle.model.specs.declared.Guest.{Guest}
+use Rattle.model.specs.declared.Occupied.{Occupied}
 use Rattle.model.specs.declared.Session.{Session}
 use Rattle.model.specs.declared.Slot.{Slot}
 use Rattle.model.specs.declared.Table.{Table}
@@ -49,12 +51,11 @@ free = record { held = false; owner = 0; number = 0; session = noSession }
 abbrev pub holding : ℕ → ℕ → Session → Place
 holding g n x = record { held = true; owner = g; number = n; session = x }
 
--- a place as the table keeps it, and back
+-- a place as the table keeps it but for the mark, and back
 unfoldable pub slotOf : Place → Slot
 slotOf c = record {
   number = c .number;
   aad = c .session .aad;
-  held = c .held;
   owner = c .owner;
   service = c .session .service;
   algo = c .session .algo;
@@ -63,17 +64,39 @@ slotOf c = record {
   result = c .session .result;
 }
 
-abbrev pub placeOf : Slot → Place
-placeOf c = record {
-  held = c .held;
-  owner = c .owner;
-  number = c .number;
-  session = record { service = c .service; algo = c .algo; direction = c .direction; keylen = c .keylen; result = c .result; aad = c .aad };
-}
+abbrev pub sessionOf : Slot → Session
+sessionOf c = record { service = c .service; algo = c .algo; direction = c .direction; keylen = c .keylen; result = c .result; aad = c .aad }
 
--- the slots of a table; every definition that asks about a slot asks this
+abbrev pub placeOf : Bool → Slot → Place
+placeOf held c = record { held = held; owner = c .owner; number = c .number; session = sessionOf c }
+
+-- the lowest k bits of a word, lowest first, and back
+unfoldable pub bitsOf : ℕ → ℕ → List Bool
+bitsOf zero w = []
+bitsOf (suc k) w = eqb (w % 2) 1 ∷ bitsOf k (w / 2)
+
+unfoldable pub wordOf : List Bool → ℕ
+wordOf [] = 0
+wordOf (b ∷ l) = one b + 2 * wordOf l
+
+-- K2, "the occupied slots as bits": the marks of the 128 slots, the first 64 in `low` and the others in `high`, and back
+unfoldable pub marksOf : Occupied → List Bool
+marksOf o = bitsOf 64 (o .low) ++ bitsOf 64 (o .high)
+
+unfoldable pub occupiedBy : List Bool → Occupied
+occupiedBy l = record { low = wordOf (take 64 l); high = wordOf (drop 64 l) }
+
+-- the mark of slot i
+abbrev pub marked : Occupied → ℕ → Bool
+marked o i = getD (marksOf o) i false
+
+-- the slots of a table, which every definition that asks about a slot asks, and the table with others.
+-- K2, "A clear slot names no owner, whatever its fields hold": to be held is to be marked
 unfoldable pub slotsOf : Table → List Place
-slotsOf t = map placeOf (t .slots)
+slotsOf t = zip placeOf (marksOf (t .occupied)) (t .slots)
+
+unfoldable pub withSlots : Table → List Place → Table
+withSlots t l = record { config = t .config; occupied = occupiedBy (map (λ c. c .held) l); slots = map slotOf l; guests = t .guests }
 
 -- slot i
 abbrev pub placeAt : Table → ℕ → Place

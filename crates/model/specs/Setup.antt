@@ -94,6 +94,7 @@ setUpAnswer config reserves caps store = firstFail (setUpChecks config reserves 
 unfoldable pub freshTable : Config → List ℕ → List ℕ → Table
 freshTable k reserves caps = record {
   config = k;
+  occupied = record { low = 0; high = 0 };
   slots = replicate slotCount (slotOf free);
   guests = map (λ g. newGuest (getD reserves g 0) (getD caps g 0)) (0 ∷ 1 ∷ 2 ∷ 3 ∷ 4 ∷ 5 ∷ 6 ∷ 7 ∷ []);
 }

@@ -96,12 +96,18 @@ pub struct Span {
     pub size: usize,
 }
 
-// A session, or all zero where the slot is free.
+// Bit s of the two words says that slot s is held: slots 0 to 63 by `low`, 64 to 127 by `high`.
+#[repr(C)]
+pub struct Occupied {
+    pub low: u64,
+    pub high: u64,
+}
+
+// A session. The fields of a slot whose bit is clear mean nothing.
 #[repr(C)]
 pub struct Slot {
     pub number: u64,
     pub aad: u32,
-    pub held: bool,
     pub owner: u8,
     pub service: u8,
     pub algo: u8,
@@ -122,6 +128,7 @@ pub struct Guest {
 #[repr(C)]
 pub struct Table {
     pub config: Config,
+    pub occupied: Occupied,
     pub slots: [Slot; 128],
     pub guests: [Guest; 8],
 }

@@ -1,15 +1,16 @@
 // The session table by value: whose slot is whose, the live session of a number, room for one more, and the tables that calls leave.
 ghost use mathlib.Core.Path.{_≡_};
-ghost use mathlib.Core.Bool.{_&&_, not};
-ghost use Prim.Native.Nat.{_≤_, _-_};
+ghost use mathlib.Core.Bool.{true, _&&_, not};
+ghost use Prim.Native.Nat.{ℕ, _≤_, _<_, _-_};
 ghost use lib.Dec.{eqb, ltb};
 ghost use lib.ListN.{getD};
-ghost use Rattle.model.specs.Session.{free, holding, slotOf, placeOf, newGuest, guestAt};
-ghost use Rattle.model.specs.View.{owned, given, freeAt, liveAt, find, isLive, sessionIn, holds, total, unmet, owed, full, present};
+ghost use Rattle.lists.specs.Sum.{sumTo, except};
+ghost use Rattle.model.specs.Session.{free, holding, slotOf, sessionOf, marked, placeOf, newGuest, guestAt};
+ghost use Rattle.model.specs.View.{owned, given, freeAt, liveAt, find, isLive, sessionIn, holds, full, present};
 ghost use Rattle.model.specs.Act.{attach, withSlot, without, withGuest, restarted, tableAfter};
 ghost use Rattle.model.specs.Setup.{freshTable};
 ghost use Rattle.model.specs.Device.{bare};
-ghost use Rattle.table.specs.Narrow.{low, lastly, numberAfter};
+ghost use Rattle.table.specs.Narrow.{low, lastly, numberAfter, lacks};
 
 // The place of a live session, 128 where there is none, and the session, all 0 where there is none.
 pub struct Found {
@@ -24,7 +25,6 @@ fn free_slot() -> model::Slot
     model::Slot {
         number: 0,
         aad: 0,
-        held: false,
         owner: 0,
         service: 0,
         algo: 0,
@@ -63,6 +63,7 @@ pub fn fresh(config: model::Config, reserves: [u8; 8], caps: [u8; 8]) -> model::
     ];
     model::Table {
         config,
+        occupied: model::Occupied { low: 0, high: 0 },
         slots,
         guests,
     }
@@ -93,16 +94,16 @@ pub fn is_present(guest: u8, r: model::Guest) -> bool
     (guest < 8) & r.attached
 }
 
-// The slot names the guest as owner.
-pub fn owned_by(c: model::Slot, guest: u8) -> bool
-    ensures { λ r. ⌜ r ≡ owned guest (placeOf c) ⌝ }
+// The slot, held or not, names the guest as owner.
+pub fn owned_by(held: bool, c: model::Slot, guest: u8) -> bool
+    ensures { λ r. ⌜ r ≡ owned guest (placeOf held c) ⌝ }
 {
-    c.held & (c.owner == guest)
+    held & (c.owner == guest)
 }
 
 // The session in a slot.
 fn session_of(c: model::Slot) -> model::Session
-    ensures { λ r. ⌜ r ≡ placeOf c .session ⌝ }
+    ensures { λ r. ⌜ r ≡ sessionOf c ⌝ }
 {
     model::Session {
         service: c.service as u32,
@@ -116,17 +117,25 @@ fn session_of(c: model::Slot) -> model::Session
 
 // The number was given to the guest with record r, and the slot's session passes step 4.
 fn is_given(k: model::Config, r: model::Guest, number: u64, c: model::Slot) -> bool
-    ensures { λ b. ⌜ b ≡ given k r number (placeOf c) ⌝ }
+    ensures { λ b. ⌜ b ≡ given k r number (placeOf true c) ⌝ }
 {
     r.attached & (0 < number) & (number <= r.last) & rules::is_accepted(k, session_of(c))
 }
 
-// The slot matches the guest's session number. The rules are looked at only where owner and number fit.
-fn is_live(k: model::Config, r: model::Guest, guest: u8, number: u64, c: model::Slot) -> bool
-    ensures { λ b. ⌜ b ≡ (owned guest (placeOf c) && eqb (c .number) number && given k r number (placeOf c)) ⌝ }
+// Slot i matches the guest's session number. Its mark and the rules are looked at only where owner and number fit.
+fn is_live(
+    k: model::Config,
+    r: model::Guest,
+    guest: u8,
+    number: u64,
+    o: model::Occupied,
+    i: usize,
+    c: model::Slot,
+) -> bool
+    ensures { λ b. ⌜ b ≡ (owned guest (placeOf (marked o i) c) && eqb (c .number) number && given k r number (placeOf (marked o i) c)) ⌝ }
 {
-    if c.held & (c.owner == guest) & (c.number == number) {
-        return is_given(k, r, number, c);
+    if (c.owner == guest) & (c.number == number) {
+        return occupancy::is_held(o, i) & is_given(k, r, number, c);
     }
     false
 }
@@ -138,11 +147,12 @@ pub fn lookup(t: model::Table, guest: u8, number: u64) -> Found
     ensures session { λ r. ⌜ r .session ≡ sessionIn (find (bare t) guest number) ⌝ }
 {
     let k = t.config;
+    let o = t.occupied;
     let r = guest_at(t, guest);
     let mut i: usize = 0;
     while i < 128 {
         let c = t.slots[i];
-        if is_live(k, r, guest, number, c) {
+        if is_live(k, r, guest, number, o, i, c) {
             return Found {
                 at: i,
                 session: session_of(c),
@@ -156,29 +166,19 @@ pub fn lookup(t: model::Table, guest: u8, number: u64) -> Found
     }
 }
 
-// How many slots are held.
-fn held_count(t: model::Table) -> usize
-    ensures { λ r. ⌜ r ≡ total t ⌝ }
+// How many slots each of the eight guests holds, in one pass over the slots.
+fn holdings(t: model::Table) -> [u8; 8]
+    ensures { λ r. ⌜ ((g : ℕ) → g < 8 → getD r g 0 ≡ holds t g) ⌝ }
 {
-    let mut n: usize = 0;
+    let o = t.occupied;
+    let mut n: [u8; 8] = [0; 8];
     let mut i: usize = 0;
     while i < 128 {
         let c = t.slots[i];
-        n += c.held as usize;
-        i += 1;
-    }
-    n
-}
-
-// How many slots the guest holds.
-fn held_by(t: model::Table, guest: u8) -> usize
-    ensures { λ r. ⌜ r ≡ holds t guest ⌝ }
-{
-    let mut n: usize = 0;
-    let mut i: usize = 0;
-    while i < 128 {
-        let c = t.slots[i];
-        n += owned_by(c, guest) as usize;
+        if occupancy::is_held(o, i) & (c.owner < 8) {
+            let held = n[c.owner as usize];
+            n[c.owner as usize] = held + 1;
+        }
         i += 1;
     }
     n
@@ -188,57 +188,53 @@ fn held_by(t: model::Table, guest: u8) -> usize
 pub fn first_free(t: model::Table) -> usize
     ensures { λ r. ⌜ r ≡ freeAt t ⌝ }
 {
-    let mut i: usize = 0;
-    while i < 128 {
-        let c = t.slots[i];
-        if !c.held {
-            return i;
-        }
-        i += 1;
-    }
-    128
+    occupancy::first_free(t.occupied)
 }
 
-// What the guest lacks of its reserve.
-fn unmet(t: model::Table, guest: u8) -> usize
-    ensures { λ r. ⌜ r ≡ unmet t guest ⌝ }
-    ensures bounded { λ r. ⌜ r ≤ 255 ⌝ }
+// What a guest with record r that holds so many slots lacks of its reserve.
+fn unmet(r: model::Guest, held: u8) -> usize
+    ensures { λ n. ⌜ n ≡ r .reserve - held ⌝ }
+    ensures bounded { λ n. ⌜ n ≤ 255 ⌝ }
 {
-    let r = guest_at(t, guest);
-    let reserve = r.reserve as usize;
-    let held = held_by(t, guest);
+    let reserve = r.reserve;
     if reserve <= held {
         return 0;
     }
-    reserve - held
+    (reserve - held) as usize
 }
 
-// What the guests but this one lack of their reserves.
-fn owed(t: model::Table, guest: u8) -> usize
-    ensures { λ r. ⌜ r ≡ owed t guest ⌝ }
+// What the guests but this one lack of their reserves, by their records and holdings.
+fn owed(guests: [model::Guest; 8], held: [u8; 8], guest: u8) -> usize
+    ensures { λ r. ⌜ r ≡ sumTo 8 (except guest (lacks guests held)) ⌝ }
     ensures bounded { λ r. ⌜ r ≤ 2040 ⌝ }
 {
     let mut sum: usize = 0;
-    let mut i: u8 = 0;
+    let mut i: usize = 0;
     while i < 8 {
-        if i != guest {
-            sum += unmet(t, i);
+        if i != guest as usize {
+            let r = guests[i];
+            let h = held[i];
+            sum += unmet(r, h);
         }
         i += 1;
     }
     sum
 }
 
-// A create of the guest is NOSPC.
+// A create of the guest is NOSPC; one above 7 has a cap of 0.
 fn is_full(t: model::Table, guest: u8) -> bool
     ensures { λ r. ⌜ r ≡ full t guest ⌝ }
 {
-    let r = guest_at(t, guest);
-    let cap = r.cap as usize;
-    let reserve = r.reserve as usize;
-    let held = held_by(t, guest);
-    let all = held_count(t);
-    (cap <= held) | (reserve <= held) & (128 <= all + owed(t, guest)) | (128 <= all)
+    if 8 <= guest {
+        return true;
+    }
+    let guests = t.guests;
+    let r = guest_of(guests, guest);
+    let counts = holdings(t);
+    let held = counts[guest as usize];
+    let all = occupancy::held_count(t.occupied);
+    let others = owed(guests, counts, guest);
+    (r.cap <= held) | (r.reserve <= held) & (128 <= all + others) | (128 <= all)
 }
 
 // A create of the guest is not NOSPC.
@@ -265,7 +261,6 @@ fn slot_of(guest: u8, number: u64, x: model::Session) -> model::Slot
     model::Slot {
         number,
         aad: x.aad,
-        held: true,
         owner: guest,
         service: (x.service % 256) as u8,
         algo: (x.algo % 256) as u8,
@@ -275,12 +270,13 @@ fn slot_of(guest: u8, number: u64, x: model::Session) -> model::Slot
     }
 }
 
-// The table with slot `at` replaced.
-fn with_slot(t: model::Table, at: usize, c: model::Slot) -> model::Table
-    ensures { λ r. ⌜ r ≡ withSlot t at (placeOf c) ⌝ }
+// The table with slot `at` replaced, held or not.
+fn with_slot(t: model::Table, at: usize, held: bool, c: model::Slot) -> model::Table
+    ensures { λ r. ⌜ r ≡ withSlot t at (placeOf held c) ⌝ }
 {
     let mut next = t;
     if at < 128 {
+        next.occupied = occupancy::with_mark(t.occupied, at, held);
         next.slots[at] = c;
     }
     next
@@ -290,7 +286,7 @@ fn with_slot(t: model::Table, at: usize, c: model::Slot) -> model::Table
 pub fn without_slot(t: model::Table, at: usize) -> model::Table
     ensures { λ r. ⌜ r ≡ withSlot t at free ⌝ }
 {
-    with_slot(t, at, free_slot())
+    with_slot(t, at, false, free_slot())
 }
 
 // The table with a guest's record replaced.
@@ -325,7 +321,7 @@ pub fn granted(
     ensures { λ u. ⌜ u ≡ withGuest (withSlot t at (holding guest number (low x))) guest (lastly r number) ⌝ }
 {
     with_guest(
-        with_slot(t, at, slot_of(guest, number, x)),
+        with_slot(t, at, true, slot_of(guest, number, x)),
         guest,
         with_last(r, number),
     )
@@ -340,7 +336,8 @@ fn without_guest(t: model::Table, guest: u8) -> model::Table
     let mut i: usize = 0;
     while i < 128 {
         let c = next.slots[i];
-        if owned_by(c, guest) {
+        if owned_by(occupancy::is_held(next.occupied, i), c, guest) {
+            next.occupied = occupancy::with_mark(next.occupied, i, false);
             next.slots[i] = f;
         }
         i += 1;

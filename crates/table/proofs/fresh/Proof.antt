@@ -18,7 +18,7 @@ module _ (reserves caps : List ℕ) where
 
   filled : (k : Config) (s : Slot) (r₀ r₁ r₂ r₃ r₄ r₅ r₆ r₇ : Guest)
       → s ≡ slotOf free → New 0 r₀ → New 1 r₁ → New 2 r₂ → New 3 r₃ → New 4 r₄ → New 5 r₅ → New 6 r₆ → New 7 r₇
-      → record { config = k; slots = replicate 128 s; guests = r₀ ∷ r₁ ∷ r₂ ∷ r₃ ∷ r₄ ∷ r₅ ∷ r₆ ∷ r₇ ∷ [] } ≡ freshTable k reserves caps
+      → record { config = k; occupied = record { low = 0; high = 0 }; slots = replicate 128 s; guests = r₀ ∷ r₁ ∷ r₂ ∷ r₃ ∷ r₄ ∷ r₅ ∷ r₆ ∷ r₇ ∷ [] } ≡ freshTable k reserves caps
   unfolding freshTable
   filled k s r₀ r₁ r₂ r₃ r₄ r₅ r₆ r₇ e e₀ e₁ e₂ e₃ e₄ e₅ e₆ e₇ = rw (e, e₀, e₁, e₂, e₃, e₄, e₅, e₆, e₇)
 

@@ -5,34 +5,32 @@ use Prim.Native.Nat.{ℕ, _≤_, _+_, _-_}
 use native.Mathlib.Omega.{arith}
 use borrow.Author.Needs.{needs}
 use lib.Dec.{eqb}
-use lib.ListN.{drop, getD}
+use lib.ListN.{drop}
 use Rattle.lists.specs.Seek.{index}
-use Rattle.laws.specs.Walk.{slot-past, slots-here, slots-later, slots-searched, slots-found}
+use Rattle.laws.specs.Walk.{fieldsOf, slot-past, slots-here, slots-later, slots-searched, slots-found}
 use Rattle.model.specs.declared.Guest.{Guest}
-use Rattle.model.specs.declared.Slot.{Slot}
 use Rattle.model.specs.declared.Table.{Table}
-use Rattle.model.specs.Session.{free, slotOf, placeOf, slotsOf, guestAt}
+use Rattle.model.specs.Session.{Place, slotOf, placeOf, marked, slotsOf, guestAt}
 use Rattle.model.specs.View.{owned, given, live, liveAt}
 use Rattle.table.proofs.lookup.Statement.{statement}
 use Rattle.table.proofs.lookup.Tie as tie
 
 abbrev Inv-loop : tie.InvT-loop
-Inv-loop guest number t k r i₀ i =
+Inv-loop guest number t k o r i₀ i =
     (i ≤ 128) × (i + index (live t guest number) (drop i (slotsOf t)) ≡ index (live t guest number) (slotsOf t))
 
 abbrev μ-loop : tie.MeasureT-loop
-μ-loop guest number t k r i₀ i = 128 - i
+μ-loop guest number t k o r i₀ i = 128 - i
 
 -- slot i as the code reads it
-abbrev slot : Table → ℕ → Slot
-slot t i = getD (t .slots) i (slotOf free)
+abbrev slot : Table → ℕ → Place
+slot t i = placeOf (marked (t .occupied) i) (fieldsOf t i)
 
 -- what `is_live` tells of it, given the guest's record r
 seen : (t : Table) (g n i : ℕ) (r : Guest) (b : Bool) → r ≡ guestAt t g
-    → b ≡ (owned g (placeOf (slot t i)) && eqb (slot t i .number) n && given (t .config) r n (placeOf (slot t i)))
-    → b ≡ live t g n (placeOf (slot t i))
-seen t g n i r b e f =
-    f ∙ ap (λ (q : Guest). owned g (placeOf (slot t i)) && eqb (slot t i .number) n && given (t .config) q n (placeOf (slot t i))) e
+    → b ≡ (owned g (slot t i) && eqb (slot t i .number) n && given (t .config) r n (slot t i))
+    → b ≡ live t g n (slot t i)
+seen t g n i r b e f = f ∙ ap (λ (q : Guest). owned g (slot t i) && eqb (slot t i .number) n && given (t .config) q n (slot t i)) e
 
 returns : tie.Need-returns Inv-loop μ-loop
 unfolding slotOf
@@ -40,10 +38,10 @@ returns c =
     let found = c .before .before .is-live in
     let i = c .before .before .before .before .before .loop .i in
     let guest = c .before .before .before .before .before .before .guest-at in
-    let start = c .before .before .before .before .before .before .before .before in
+    let start = c .before .before .before .before .before .before .before .before .before in
     let a = start .args in
     let e = seen (a .t1) (a .guest) (a .number) i (guest .result) (found .result) (guest .ensures) (found .ensures) in
-    let here = slots-here (a .t1) (start .good .0) (live (a .t1) (a .guest) (a .number)) i (found .result) (omega arith) e (c .before .if1 .taken) in
+    let here = slots-here (a .t1) (start .good .0) (live (a .t1) (a .guest) (a .number)) i _ (found .result) (omega arith) refl e (c .before .if1 .taken) in
     let at : i ≡ liveAt (a .t1) (a .guest) (a .number) = omega arith in
     slots-found (a .t1) (start .good .0) (a .guest) (a .number) i _ _ at refl (c .session-of .ensures)
 
@@ -53,14 +51,14 @@ loop-again c =
     let found = c .before .is-live in
     let i = c .before .before .before .before .loop .i in
     let guest = c .before .before .before .before .before .guest-at in
-    let start = c .before .before .before .before .before .before .before in
+    let start = c .before .before .before .before .before .before .before .before in
     let a = start .args in
     let e = seen (a .t1) (a .guest) (a .number) i (guest .result) (found .result) (guest .ensures) (found .ensures) in
-    omega (arith, slots-later (a .t1) (start .good .0) (live (a .t1) (a .guest) (a .number)) i (found .result) (omega arith) e (c .if1 .left))
+    omega (arith, slots-later (a .t1) (start .good .0) (live (a .t1) (a .guest) (a .number)) i _ (found .result) (omega arith) refl e (c .if1 .left))
 
 returns-2 : tie.Need-returns-2 Inv-loop μ-loop
 returns-2 c =
-    let start = c .before .before .before .before .before .before in
+    let start = c .before .before .before .before .before .before .before in
     let a = start .args in
     let i = c .before .before .before .loop .i in
     let end = slots-searched (a .t1) (start .good .0) (live (a .t1) (a .guest) (a .number)) i (omega arith) in
