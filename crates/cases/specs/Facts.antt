@@ -568,6 +568,76 @@ byHand =
     ∷ offering (take 48 offer ++ le 8 21) (answers 0 (sending ccm 3) 1)
     ∷ []
 
+-- ---- the words that mark the held slots (K2), on the same sessions
+
+-- the two words put there by hand, whatever the slots' fields hold
+abbrev marking : ℕ → ℕ → Fact → Fact
+marking low high = by (λ t. record { config = t .config; occupied = record { low = low; high = high }; slots = t .slots; guests = t .guests })
+
+abbrev occupies : ℕ → ℕ → Fact
+occupies low high w = eqb (w .table .occupied .low) low && eqb (w .table .occupied .high) high
+
+-- a word with every bit set, and with every bit but the first or the last
+abbrev every : ℕ
+every = 18446744073709551615
+
+abbrev butFirst : ℕ
+butFirst = 18446744073709551614
+
+abbrev butLast : ℕ
+butLast = 9223372036854775807
+
+-- a create of guest 0, with room for all, takes slot i
+abbrev takes : ℕ → ℕ → ℕ → Fact
+takes low high i = guest0 255 255 7 (marking low high (then 0 longKey (areaIs i (replicate 64 7 ++ replicate 64 0))))
+
+abbrev marks : List Fact
+marks =
+    -- seven sessions are seven bits; a create sets the next, a destroy clears its own, a refusal leaves all, an attach clears its guest's
+    occupies 127 0
+    ∷ then 0 longKey (occupies 255 0)
+    ∷ then 0 (ending 515 2) (occupies 125 0)
+    ∷ then 0 (ending 515 2) (then 0 longKey (occupies 127 0))
+    ∷ then 0 (ending 515 2) (then 0 longKey (areaIs 1 (replicate 64 7 ++ replicate 64 0)))
+    ∷ then 0 (ending 3 2) (occupies 127 0)
+    ∷ then 0 (Attach 1) (occupies 0 0)
+    -- clear slots that carry left-over fields name nobody and match no number
+    ∷ marking 0 0 (heldAll 0)
+    ∷ marking 0 0 (held 0 0)
+    ∷ marking 0 0 (answers 0 (KeyAnswer 1) 4)
+    ∷ marking 123 0 (held 0 6)
+    ∷ marking 123 0 (answers 0 (KeyAnswer 3) 4)
+    ∷ marking 123 0 (answers 0 (sending ccm 3) 4)
+    ∷ marking 123 0 (answers 0 (ending 771 3) 1)
+    ∷ marking 4 0 (answers 0 (sending ccm 3) 0)
+    ∷ marking 4 0 (held 0 1)
+    -- an attach leaves their areas, and a create takes the lowest of them with all that was left
+    ∷ marking 123 0 (then 0 (Attach 1) (areaIs 1 zeros))
+    ∷ marking 123 0 (then 0 (Attach 1) (areaIs 2 (replicate 16 7 ++ replicate 112 0)))
+    ∷ marking 123 0 (then 0 longKey (occupies 127 0))
+    ∷ marking 123 0 (then 0 longKey (areaIs 2 (replicate 64 7 ++ replicate 64 0)))
+    ∷ marking 123 0 (then 0 longKey (answers 0 (KeyAnswer 3) 4))
+    -- a marked slot with cleared fields is guest 0's, and matches no number
+    ∷ marking 127 1 (held 0 8)
+    ∷ marking 127 1 (answers 0 (KeyAnswer 0) 4)
+    ∷ marking 127 1 (then 0 (Attach 1) (occupies 0 0))
+    -- the first clear bit, at both ends of both words
+    ∷ takes butFirst every 0
+    ∷ takes butLast every 63
+    ∷ takes every 0 64
+    ∷ takes every butFirst 64
+    ∷ takes every 1 65
+    ∷ takes every butLast 127
+    ∷ guest0 255 255 7 (marking every butLast (then 0 longKey (occupies every every)))
+    ∷ guest0 255 255 7 (marking every every (answers 0 longKey 5))
+    -- both words count, for the guest and for all
+    ∷ marking every every (heldAll 128)
+    ∷ marking 0 every (heldAll 64)
+    ∷ marking 0 every (held 0 64)
+    ∷ marking 0 2147483647 (answers 0 longKey 0)
+    ∷ marking 0 4294967295 (answers 0 longKey 5)
+    ∷ []
+
 -- ---- that the bounds of demand 3 are reached
 
 -- guest 1 holds every slot but the last
@@ -613,8 +683,9 @@ pub facts :
     ++ failing 100 attached (controls ++ slips)
     ++ failing 200 (ran attached creates) requests
     ++ failing 300 (ran attached creates) byHand
-    ++ failing 400 attached crowd
-    ++ failing 500 contended contest
+    ++ failing 400 (ran attached creates) marks
+    ++ failing 500 attached crowd
+    ++ failing 600 contended contest
     ≡ []
 unfolding le le32 le64 part padded firstFail controlOutcome dataOutcome controlBytes dataBytes known keyOk resultOk ivOk sourceOk decryptedOk writtenOk payloadOk slotOf bitsOf wordOf marksOf occupiedBy slotsOf withSlots newGuest keyStart keyArea areaOf keyLen keyOf bit offers directionOk lengthsOk accepts present find noRoom full withSlot without withGuest restarted numbered tableAfter storeAfter withArea wipe configOf onlyBits configOk sharesOk setUpAnswer freshTable setUp opcodeOk asked newEntry controlChecks operationOk lengths fits partOf status checksOf outcome checks act reply next sumTo
 facts = refl
