@@ -11,3 +11,4 @@ pub mod History
 pub mod Demand3
 pub mod ZeroRule
 pub mod Excluded
+pub mod Clear

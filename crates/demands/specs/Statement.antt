@@ -3,7 +3,7 @@
 use mathlib.Core.Path.{_≡_}
 use mathlib.Core.Logic.{_⊎_}
 use mathlib.Core.Bool.{Bool, true, false, cond, not, _&&_, _||_}
-use mathlib.Core.List.{List, [], _∷_, _++_}
+use mathlib.Core.List.{List, [], _∷_, _++_, map}
 use Prim.Native.Nat.{ℕ, suc, _+_, _-_, _^_, _≤_, _<_}
 use lib.Dec.{eqb, leb, ltb}
 use lib.ListN.{length, getD, take}
@@ -12,7 +12,7 @@ use Rattle.model.specs.Bytes.{le, le32}
 use Rattle.model.specs.Answer.{ok, err, badmsg, notsupp, invsess, nospc, badGuest, noOutcome, badStore, badFeature, badShares, badConfig, Check}
 use Rattle.model.specs.Lens.{orIn}
 use Rattle.model.specs.Algorithm.{cipher, aead, ccm, ivOk}
-use Rattle.model.specs.Session.{slotCount, lastNumber, World, Place, placeAt, guestAt, directed}
+use Rattle.model.specs.Session.{slotCount, lastNumber, World, Place, free, slotsOf, withSlots, placeAt, guestAt, directed}
 use Rattle.model.specs.View.{live, liveAt, find, holds, total}
 use Rattle.model.specs.Setup.{configOf, freshTable, setUpChecks, setUpAnswer, setUp}
 use Rattle.model.specs.Control.{opcode, service, isCreate}
@@ -186,6 +186,26 @@ pub record AeadLengths (w : World) (g : ℕ) (r b : List ℕ) : Type 0 where
   pub decryption : opcode r ≡ 769 → AllElse w g r b → reply w g (Admit r b) .answer
       ≡ cond (leb (lengths r .result) (lengths r .source) && eqb (lengths r .written) (lengths r .source - lengths r .result)
       && bounded (named (w .table) g r .session .algo) r (lengths r .written)) ok err
+
+-- ---- ticket K2: "A clear slot names no owner, whatever its fields hold"
+
+-- the slot, its fields cleared where it is clear
+abbrev pub scrubbed : Place → Place
+scrubbed c = cond (c .held) c free
+
+abbrev pub scrubbedWorld : World → World
+scrubbedWorld w = record { table = withSlots (w .table) (map scrubbed (slotsOf (w .table))); store = w .store }
+
+-- two tables, whatever they hold, that differ in the fields of clear slots alone
+abbrev pub Alike : World → World → Type 0
+Alike w x = scrubbedWorld w ≡ scrubbedWorld x
+
+-- over the list cs, from each of the two
+pub record ClearSlots (w x : World) (cs : List (Call Request)) : Type 0 where
+  -- every guest gets the same, call by call
+  pub same : (g : ℕ) → outcomes g w cs ≡ outcomes g x cs
+  -- and what is left differs in the fields of clear slots alone
+  pub after : Alike (run w cs) (run x cs)
 
 -- ---- demand 3: one claim about the whole list of calls
 

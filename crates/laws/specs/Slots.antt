@@ -13,16 +13,16 @@ use Rattle.model.specs.declared.Config.{Config}
 use Rattle.model.specs.declared.Guest.{Guest}
 use Rattle.model.specs.declared.Table.{Table}
 use Rattle.model.specs.Session.{slotCount, Place, free, slotOf, placeOf, bitsOf, marksOf, occupiedBy, marked, slotsOf, withSlots, placeAt}
-use Rattle.model.specs.View.{isHeld, isFree, total, freeAt}
+use Rattle.model.specs.View.{isHeld, total, freeAt}
 use Rattle.model.specs.Act.{withSlot, released, without, withGuest}
 use Rattle.model.specs.Setup.{freshTable}
 use Rattle.laws.specs.Bits.{length-marks, zip-marks, occupied-marks}
 
 -- ---- slots that are kept come back
 
-length-le : (t : Table) → length (slotsOf t) ≤ 128
+pub slots-le : (t : Table) → length (slotsOf t) ≤ 128
 unfolding slotsOf
-length-le t = omega (arith, length-zip-le placeOf (marksOf (t .occupied)) (t .slots), length-marks (t .occupied))
+slots-le t = omega (arith, length-zip-le placeOf (marksOf (t .occupied)) (t .slots), length-marks (t .occupied))
 
 pub slots-kept : (t : Table) (l : List Place) → length l ≤ 128 → slotsOf (withSlots t l) ≡ l
 unfolding slotsOf withSlots slotOf
@@ -32,11 +32,11 @@ slots-kept t l h =
 
 pub slots-with : (t : Table) (i : ℕ) (c : Place) → slotsOf (withSlot t i c) ≡ set (slotsOf t) i c
 unfolding withSlot
-slots-with t i c = slots-kept t (set (slotsOf t) i c) (omega (arith, length-set (slotsOf t) i c, length-le t))
+slots-with t i c = slots-kept t (set (slotsOf t) i c) (omega (arith, length-set (slotsOf t) i c, slots-le t))
 
 pub slots-without : (t : Table) (g : ℕ) → slotsOf (without t g) ≡ map (released g) (slotsOf t)
 unfolding without
-slots-without t g = slots-kept t (map (released g) (slotsOf t)) (omega (arith, length-map (slotsOf t) (released g), length-le t))
+slots-without t g = slots-kept t (map (released g) (slotsOf t)) (omega (arith, length-map (slotsOf t) (released g), slots-le t))
 
 pub slots-guest : (t : Table) (g : ℕ) (r : Guest) → slotsOf (withGuest t g r) ≡ slotsOf t
 unfolding slotsOf withGuest

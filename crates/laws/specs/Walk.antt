@@ -19,13 +19,12 @@ use Rattle.lists.specs.Sum.{sumTo, except, sum-below}
 use Rattle.lists.specs.Test.{or-false, and-true}
 use Rattle.model.proofs.Table.{the-type}
 use Rattle.model.proofs.Table.Laws.{the-laws}
-use Rattle.model.specs.declared.Guest.{Guest}
 use Rattle.model.specs.declared.Occupied.{Occupied}
 use Rattle.model.specs.declared.Session.{Session}
 use Rattle.model.specs.declared.Slot.{Slot}
 use Rattle.model.specs.declared.Table.{Table}
 use Rattle.model.specs.Session.{Place, free, slotOf, sessionOf, placeOf, marksOf, occupiedBy, marked, slotsOf, withSlots, placeAt, newGuest, guestAt}
-use Rattle.model.specs.View.{isHeld, isFree, owned, freeAt, liveAt, holds, total, unmet, owed, noRoom, full, find, isLive, sessionIn}
+use Rattle.model.specs.View.{isHeld, isFree, owned, freeAt, liveAt, holds, total, owed, noRoom, full, find, isLive, sessionIn}
 use Rattle.model.specs.Act.{withSlot, released, without}
 use Rattle.model.specs.Device.{bare}
 use Rattle.laws.specs.Loops.{count-next, index-here, index-later, index-end, mapBelow, below-at, below-more, below-skip, below-all, length-below}

@@ -1,13 +1,13 @@
 -- The running tally is the tally of the answers so far, where these are fewer than 32 bits count. Assumes nothing.
 use Prim.Native.Nat.{ℕ, suc, _+_, _≤_, _<_}
-use mathlib.Core.Path.{_≡_, refl, sym, _∙_, ap}
+use mathlib.Core.Path.{_≡_, refl, sym, _∙_}
 use mathlib.Core.Bool.{Bool, true, false, cond}
 use mathlib.Core.List.{List, [], _∷_, _++_}
 use native.Mathlib.Omega.{arith}
-use lib.Dec.{ltb, eqb}
+use lib.Dec.{eqb}
 use lib.ListN.{length, length-append}
 use borrow.Author.Tests.{lt-ltb}
-use Rattle.lists.specs.Seek.{one, count}
+use Rattle.lists.specs.Seek.{one, count, count-append}
 use Rattle.model.specs.Answer.{ok}
 use Rattle.tally.specs.declared.Tally.{Tally}
 use Rattle.tally.specs.Count.{tallyOf, increment, none, afterAnswer}
@@ -18,8 +18,7 @@ isOk answer = eqb answer ok
 -- ---- counts of a list with one more
 
 count-more : (l : List ℕ) (a : ℕ) → count isOk (l ++ a ∷ []) ≡ count isOk l + one (isOk a)
-count-more [] a = omega arith
-count-more (x ∷ l) a = omega (arith, count-more l a)
+count-more l a = omega (arith, count-append isOk l (a ∷ []))
 
 count-within : (l : List ℕ) → count isOk l ≤ length l
 count-within [] = omega arith

@@ -1,5 +1,4 @@
 -- One word changes, and the other stays.
-use mathlib.Core.Path.{_∙_}
 use native.Mathlib.Omega.{arith}
 use borrow.Author.Needs.{needs}
 use Rattle.laws.specs.Bits.{marked-low, marked-high}
