@@ -21,7 +21,7 @@ use Rattle.model.specs.Act.{Act, refuse, pass, attach, create, destroy, withSlo
 use Rattle.model.specs.Answer.{firstFail}
 use Rattle.model.specs.Device.{Request, checksOf, asks, outcome, checks, act, reply, next}
 use Rattle.model.specs.Calls.{Call, run, outcomes}
-use Rattle.laws.specs.Slots.{slots-kept, slots-le, slots-with, slots-without, slots-guest, rest-with, rest-without, rest-guest}
+use Rattle.laws.specs.Slots.{slots-kept, slots-le, newPlace, after-attach, after-create, after-destroy}
 use Rattle.laws.specs.Found.{found-live}
 use Rattle.demands.specs.Statement.{scrubbed, scrubbedWorld, Alike, ClearSlots}
 
@@ -171,19 +171,6 @@ unfolding wipe
 wipe-map p f [] b = refl
 wipe-map p f (c ∷ l) b = ap (λ (r : List ℕ). cond (p (f c)) zeros (take areaSize b) ++ r) (wipe-map p f l (drop areaSize b))
 
--- the parts of a table that an act leaves, by those of the table before
-abbrev Parts : Table → Config → List Guest → List Place → Type 0
-Parts t k r l = (t .config ≡ k) × (t .guests ≡ r) × (slotsOf t ≡ l)
-
-placed : (t : Table) (i : ℕ) (c : Place) → Parts (withSlot t i c) (t .config) (t .guests) (set (slotsOf t) i c)
-placed t i c = (rest-with t i c .0, rest-with t i c .1, slots-with t i c)
-
-emptied : (t : Table) (g : ℕ) → Parts (without t g) (t .config) (t .guests) (map (released g) (slotsOf t))
-emptied t g = (rest-without t g .0, rest-without t g .1, slots-without t g)
-
-recorded : (t : Table) (k : Config) (r : List Guest) (l : List Place) (g : ℕ) (q : Guest) → Parts t k r l → Parts (withGuest t g q) k (set r g q) l
-recorded t k r l g q p = (rest-guest t g q .0 ∙ p .0, rest-guest t g q .1 ∙ ap (λ (m : List Guest). set m g q) (p .1), slots-guest t g q ∙ p .2)
-
 module _ (w : World) (g : ℕ) where
   abbrev u : Table
   u = scrubbedWorld w .table
@@ -202,23 +189,20 @@ module _ (w : World) (g : ℕ) where
   same-after (refuse n) = alike (scrubbedWorld w) w (config w) (guests w) (ap (map scrubbed) (slots w) ∙ once l) refl
   same-after pass = alike (scrubbedWorld w) w (config w) (guests w) (ap (map scrubbed) (slots w) ∙ once l) refl
   same-after attach =
-      let r : Table → Guest = λ t. restarted (guestAt t g) in
-      let p = recorded (without u g) _ _ _ g (r u) (emptied u g) in
-      let q = recorded (without (w .table) g) _ _ _ g (r (w .table)) (emptied (w .table) g) in
+      let p = after-attach u g in
+      let q = after-attach (w .table) g in
       alike _ _ (p .0 ∙ config w ∙ sym (q .0)) (p .1 ∙ (λ i. set (guests w i) g (restarted (guest w g i))) ∙ sym (q .1))
       (ap (map scrubbed) (p .2 ∙ ap (map (released g)) (slots w)) ∙ once-released g l ∙ sym (ap (map scrubbed) (q .2))) wiped
   same-after (create e) =
-      let c : Table → Place = λ t. holding g (suc (guestAt t g .last)) (e .session) in
-      let r : Table → Guest = λ t. numbered (guestAt t g) in
-      let p = recorded (withSlot u (freeAt u) (c u)) _ _ _ g (r u) (placed u (freeAt u) (c u)) in
-      let q = recorded (withSlot (w .table) (freeAt (w .table)) (c (w .table))) _ _ _ g (r (w .table)) (placed (w .table) (freeAt (w .table)) (c (w .table))) in
+      let p = after-create u g e in
+      let q = after-create (w .table) g e in
       alike _ _ (p .0 ∙ config w ∙ sym (q .0)) (p .1 ∙ (λ i. set (guests w i) g (numbered (guest w g i))) ∙ sym (q .1))
       (ap (map scrubbed) (p .2 ∙ (λ i. set (slots w i) (free-at w i) (holding g (suc (guest w g i .last)) (e .session))))
-      ∙ once-set l (freeAt (w .table)) (c (w .table)) ∙ sym (ap (map scrubbed) (q .2)))
+      ∙ once-set l (freeAt (w .table)) (newPlace (w .table) g e) ∙ sym (ap (map scrubbed) (q .2)))
       (ap (λ (i : ℕ). withArea (w .store) i (e .key)) (free-at w))
   same-after (destroy n) =
-      let p = placed u (liveAt u g n) free in
-      let q = placed (w .table) (liveAt (w .table) g n) free in
+      let p = after-destroy u g n in
+      let q = after-destroy (w .table) g n in
       alike _ _ (p .0 ∙ config w ∙ sym (q .0)) (p .1 ∙ guests w ∙ sym (q .1))
       (ap (map scrubbed) (p .2 ∙ (λ i. set (slots w i) (live-at w g n i) free)) ∙ once-set l (liveAt (w .table) g n) free ∙ sym (ap (map scrubbed) (q .2)))
       (ap (λ (i : ℕ). withArea (w .store) i zeros) (live-at w g n))

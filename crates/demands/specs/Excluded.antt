@@ -15,7 +15,7 @@ use Rattle.model.specs.Act.{released, without, restarted, tableAfter}
 use Rattle.model.specs.Setup.{setUp}
 use Rattle.model.specs.Device.{Request, Attach, Control, Admit, outcome, checksOf, checks, reply, next}
 use Rattle.model.specs.Calls.{Call, noted, past, run, WellFormed}
-use Rattle.laws.specs.Slots.{slots-guest, slots-without}
+use Rattle.laws.specs.Slots.{after-attach}
 use Rattle.laws.specs.Effect.{granted-next}
 use Rattle.demands.specs.Demand1.{demand1}
 use Rattle.demands.specs.Demand3.{demand3}
@@ -52,7 +52,7 @@ unfolding reply outcome tableAfter
 attach-empties w g word e =
     let t = w .table in
     ap (λ (u : World). holds (u .table) g) (sym (granted-next w g (Attach word) _ refl e))
-    ∙ ap (count (owned g)) (slots-guest (without t g) g (restarted (guestAt t g)) ∙ slots-without t g)
+    ∙ ap (count (owned g)) (after-attach t g .2)
     ∙ count-map (owned g) (released g) (slotsOf t)
     ∙ count-none (λ c. owned g (released g c)) (slotsOf t) (All-every (λ c. owned g (released g c) ≡ false) (released-own g) (slotsOf t))
 

@@ -21,7 +21,7 @@ use Rattle.history.specs.Cells.{Cell, State, stored, noCell}
 use Rattle.history.specs.Apply.{apply, release}
 use Rattle.history.specs.Lawful.{Ready}
 use Rattle.history.specs.Invariant.{Inv, setting-apply}
-use Rattle.laws.specs.Slots.{slots-with, slots-without, slots-guest, rest-with, rest-without, rest-guest}
+use Rattle.laws.specs.Slots.{newPlace, after-attach, after-create, after-destroy}
 use Rattle.laws.specs.Areas.{put-flat, length-withArea, length-wipe}
 use Rattle.follows.specs.Areas.{cells, set-cells, getD-cells, wipe-cells, index-cells, count-cells, length-cells}
 
@@ -139,13 +139,6 @@ length-after w g (create e) v f =
 length-after w g (destroy n) v f =
     length-follows (live (w .table) g n) (lives w g n) w (f .cell) zeros (λ c a. refl) (sized-by w g v (f .attached)) (length-replicate {A = ℕ} areaSize 0) (f .found)
 
--- the slots after an attach and after a create
-slots-attach : (t : Table) (g : ℕ) (r : Guest) → slotsOf (withGuest (without t g) g r) ≡ map (released g) (slotsOf t)
-slots-attach t g r = slots-guest (without t g) g r ∙ slots-without t g
-
-slots-create : (t : Table) (i g : ℕ) (c : Place) (r : Guest) → slotsOf (withGuest (withSlot t i c) g r) ≡ set (slotsOf t) i c
-slots-create t i g c r = slots-guest (withSlot t i c) g r ∙ slots-with t i c
-
 cells-after : (w : World) (g : ℕ) (a : Act) → Inv (stateOf w) → Ready (stateOf w) g a → stateOf (after w g a) .cells ≡ apply (stateOf w) g a .cells
 unfolding tableAfter storeAfter apply
 cells-after w g (refuse n) v f = refl
@@ -153,7 +146,7 @@ cells-after w g pass v f = refl
 cells-after w g attach v f =
     let z = sized w v (f .1) in
     let b = wipe (owned g) (slotsOf (w .table)) (w .store) in
-    ap (λ l. cells cellFrom l b) (slots-attach (w .table) g (restarted (guestAt (w .table) g)))
+    ap (λ l. cells cellFrom l b) (after-attach (w .table) g .2)
     ∙ wipe-cells cellFrom (owned g) (released g) (release g) cleared (slotsOf (w .table)) (w .store) (omega (arith, z .slots, z .store))
   where
     cleared : (c : Place) (a : List ℕ) → release g (cellFrom c a) ≡ cellFrom (released g c) (cond (owned g c) zeros a)
@@ -165,13 +158,12 @@ cells-after w g attach v f =
 cells-after w g (create e) v f =
     let z = sized-by w g v (f .0 .attached) in
     let i = freeAt (w .table) in
-    let c = holding g (suc (guestAt (w .table) g .last)) (e .session) in
-    ap (λ l. cells cellFrom l (withArea (w .store) i (e .key))) (slots-create (w .table) i g c (numbered (guestAt (w .table) g)))
-    ∙ swap-follows isFree Cells.isFree w (f .1 .cell) c (e .key) (λ c a. refl) z (f .0 .sound .whole) (f .1 .free)
+    ap (λ l. cells cellFrom l (withArea (w .store) i (e .key))) (after-create (w .table) g e .2)
+    ∙ swap-follows isFree Cells.isFree w (f .1 .cell) (newPlace (w .table) g e) (e .key) (λ c a. refl) z (f .0 .sound .whole) (f .1 .free)
 cells-after w g (destroy n) v f =
     let z = sized-by w g v (f .attached) in
     let i = liveAt (w .table) g n in
-    ap (λ l. cells cellFrom l (withArea (w .store) i zeros)) (slots-with (w .table) i free)
+    ap (λ l. cells cellFrom l (withArea (w .store) i zeros)) (after-destroy (w .table) g n .2)
     ∙ swap-follows (live (w .table) g n) (lives w g n) w (f .cell) free zeros (λ c a. refl) z (length-replicate {A = ℕ} areaSize 0) (f .found)
 
 -- the configuration stays, and the guests change as the theorems' do
@@ -179,26 +171,17 @@ config-after : (t : Table) (g : ℕ) (a : Act) → tableAfter t g a .config ≡ 
 unfolding tableAfter
 config-after t g (refuse n) = refl
 config-after t g pass = refl
-config-after t g attach = rest-guest (without t g) g (restarted (guestAt t g)) .0 ∙ rest-without t g .0
-config-after t g (create e) =
-    let u = withSlot t (freeAt t) (holding g (suc (guestAt t g .last)) (e .session)) in
-    rest-guest u g (numbered (guestAt t g)) .0 ∙ rest-with t (freeAt t) (holding g (suc (guestAt t g .last)) (e .session)) .0
-config-after t g (destroy n) = rest-with t (liveAt t g n) free .0
+config-after t g attach = after-attach t g .0
+config-after t g (create e) = after-create t g e .0
+config-after t g (destroy n) = after-destroy t g n .0
 
 guests-after : (w : World) (g : ℕ) (a : Act) → tableAfter (w .table) g a .guests ≡ apply (stateOf w) g a .guests
 unfolding tableAfter apply
 guests-after w g (refuse n) = refl
 guests-after w g pass = refl
-guests-after w g attach =
-    let t = w .table in
-    let r = restarted (guestAt t g) in
-    rest-guest (without t g) g r .1 ∙ ap (λ l. set l g r) (rest-without t g .1)
-guests-after w g (create e) =
-    let t = w .table in
-    let r = numbered (guestAt t g) in
-    let c = holding g (suc (guestAt t g .last)) (e .session) in
-    rest-guest (withSlot t (freeAt t) c) g r .1 ∙ ap (λ l. set l g r) (rest-with t (freeAt t) c .1)
-guests-after w g (destroy n) = rest-with (w .table) (liveAt (w .table) g n) free .1
+guests-after w g attach = after-attach (w .table) g .1
+guests-after w g (create e) = after-create (w .table) g e .1
+guests-after w g (destroy n) = after-destroy (w .table) g n .1
 
 -- the table and store after an act are the theorems' state after it
 pub follows : (w : World) (g : ℕ) (a : Act) → Inv (stateOf w) → Ready (stateOf w) g a → stateOf (after w g a) ≡ apply (stateOf w) g a

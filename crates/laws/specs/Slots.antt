@@ -4,7 +4,7 @@
 use mathlib.Core.Path.{_≡_, refl, sym, ap, _∙_}
 use mathlib.Core.Bool.{false, not}
 use mathlib.Core.List.{List, map}
-use Prim.Native.Nat.{ℕ, _≤_, _<_, _^_}
+use Prim.Native.Nat.{ℕ, suc, _≤_, _<_, _^_}
 use native.Mathlib.Omega.{arith}
 use lib.ListN.{length, replicate, set, getD, length-map, length-set}
 use lib.Seq.{set-out}
@@ -12,9 +12,9 @@ use Rattle.lists.specs.Seek.{count, index, map-set, zip-left, zip-right, zip-ma
 use Rattle.model.specs.declared.Config.{Config}
 use Rattle.model.specs.declared.Guest.{Guest}
 use Rattle.model.specs.declared.Table.{Table}
-use Rattle.model.specs.Session.{slotCount, Place, free, slotOf, placeOf, bitsOf, marksOf, occupiedBy, marked, slotsOf, withSlots, placeAt}
-use Rattle.model.specs.View.{isHeld, total, freeAt}
-use Rattle.model.specs.Act.{withSlot, released, without, withGuest}
+use Rattle.model.specs.Session.{slotCount, Place, Entry, free, holding, slotOf, placeOf, bitsOf, marksOf, occupiedBy, marked, slotsOf, withSlots, placeAt, guestAt}
+use Rattle.model.specs.View.{isHeld, total, freeAt, liveAt}
+use Rattle.model.specs.Act.{attach, create, destroy, withSlot, released, without, withGuest, restarted, numbered, tableAfter}
 use Rattle.model.specs.Setup.{freshTable}
 use Rattle.laws.specs.Bits.{length-marks, zip-marks, occupied-marks}
 
@@ -30,15 +30,15 @@ slots-kept t l h =
     zip-marks placeOf (map isHeld l) (map slotOf l) (omega (arith, length-map l isHeld, length-map l slotOf)) (omega (arith, length-map l slotOf))
     ∙ zip-maps placeOf isHeld slotOf (λ c. refl) l
 
-pub slots-with : (t : Table) (i : ℕ) (c : Place) → slotsOf (withSlot t i c) ≡ set (slotsOf t) i c
+slots-with : (t : Table) (i : ℕ) (c : Place) → slotsOf (withSlot t i c) ≡ set (slotsOf t) i c
 unfolding withSlot
 slots-with t i c = slots-kept t (set (slotsOf t) i c) (omega (arith, length-set (slotsOf t) i c, slots-le t))
 
-pub slots-without : (t : Table) (g : ℕ) → slotsOf (without t g) ≡ map (released g) (slotsOf t)
+slots-without : (t : Table) (g : ℕ) → slotsOf (without t g) ≡ map (released g) (slotsOf t)
 unfolding without
 slots-without t g = slots-kept t (map (released g) (slotsOf t)) (omega (arith, length-map (slotsOf t) (released g), slots-le t))
 
-pub slots-guest : (t : Table) (g : ℕ) (r : Guest) → slotsOf (withGuest t g r) ≡ slotsOf t
+slots-guest : (t : Table) (g : ℕ) (r : Guest) → slotsOf (withGuest t g r) ≡ slotsOf t
 unfolding slotsOf withGuest
 slots-guest t g r = refl
 
@@ -47,17 +47,46 @@ unfolding slotsOf freshTable slotOf marksOf bitsOf
 slots-fresh k reserves caps = refl
 
 -- the rest of the table stays
-pub rest-with : (t : Table) (i : ℕ) (c : Place) → (withSlot t i c .config ≡ t .config) × (withSlot t i c .guests ≡ t .guests)
+rest-with : (t : Table) (i : ℕ) (c : Place) → (withSlot t i c .config ≡ t .config) × (withSlot t i c .guests ≡ t .guests)
 unfolding withSlot withSlots
 rest-with t i c = (refl, refl)
 
-pub rest-without : (t : Table) (g : ℕ) → (without t g .config ≡ t .config) × (without t g .guests ≡ t .guests)
+rest-without : (t : Table) (g : ℕ) → (without t g .config ≡ t .config) × (without t g .guests ≡ t .guests)
 unfolding without withSlots
 rest-without t g = (refl, refl)
 
-pub rest-guest : (t : Table) (g : ℕ) (r : Guest) → (withGuest t g r .config ≡ t .config) × (withGuest t g r .guests ≡ set (t .guests) g r)
+rest-guest : (t : Table) (g : ℕ) (r : Guest) → (withGuest t g r .config ≡ t .config) × (withGuest t g r .guests ≡ set (t .guests) g r)
 unfolding withGuest
 rest-guest t g r = (refl, refl)
+
+-- ---- what an act leaves of a table: its configuration, its guests and its slots
+
+abbrev pub Parts : Table → Config → List Guest → List Place → Type 0
+Parts t k r l = (t .config ≡ k) × (t .guests ≡ r) × (slotsOf t ≡ l)
+
+recorded : (t : Table) (k : Config) (r : List Guest) (l : List Place) (g : ℕ) (q : Guest) → Parts t k r l → Parts (withGuest t g q) k (set r g q) l
+recorded t k r l g q p = (rest-guest t g q .0 ∙ p .0, rest-guest t g q .1 ∙ ap (λ (m : List Guest). set m g q) (p .1), slots-guest t g q ∙ p .2)
+
+placed : (t : Table) (i : ℕ) (c : Place) → Parts (withSlot t i c) (t .config) (t .guests) (set (slotsOf t) i c)
+placed t i c = (rest-with t i c .0, rest-with t i c .1, slots-with t i c)
+
+pub after-attach : (t : Table) (g : ℕ)
+    → Parts (tableAfter t g attach) (t .config) (set (t .guests) g (restarted (guestAt t g))) (map (released g) (slotsOf t))
+unfolding tableAfter
+after-attach t g = recorded (without t g) _ _ _ g (restarted (guestAt t g)) (rest-without t g .0, rest-without t g .1, slots-without t g)
+
+-- the slot of a new session
+abbrev pub newPlace : Table → ℕ → Entry → Place
+newPlace t g e = holding g (suc (guestAt t g .last)) (e .session)
+
+pub after-create : (t : Table) (g : ℕ) (e : Entry)
+    → Parts (tableAfter t g (create e)) (t .config) (set (t .guests) g (numbered (guestAt t g))) (set (slotsOf t) (freeAt t) (newPlace t g e))
+unfolding tableAfter
+after-create t g e = recorded (withSlot t (freeAt t) (newPlace t g e)) _ _ _ g (numbered (guestAt t g)) (placed t (freeAt t) (newPlace t g e))
+
+pub after-destroy : (t : Table) (g n : ℕ) → Parts (tableAfter t g (destroy n)) (t .config) (t .guests) (set (slotsOf t) (liveAt t g n) free)
+unfolding tableAfter
+after-destroy t g n = placed t (liveAt t g n) free
 
 -- ---- a table of 128 slots, as the code reads it
 

@@ -41,7 +41,7 @@ returns c =
     let start = c .before .before .before .before .before .before .before .before .before in
     let a = start .args in
     let e = seen (a .t1) (a .guest) (a .number) i (guest .result) (found .result) (guest .ensures) (found .ensures) in
-    let here = slots-here (a .t1) (start .good .0) (live (a .t1) (a .guest) (a .number)) i _ (found .result) (omega arith) refl e (c .before .if1 .taken) in
+    let here = slots-here (a .t1) (start .good .0) (live (a .t1) (a .guest) (a .number)) i (found .result) (omega arith) e (c .before .if1 .taken) in
     let at : i ≡ liveAt (a .t1) (a .guest) (a .number) = omega arith in
     slots-found (a .t1) (start .good .0) (a .guest) (a .number) i _ _ at refl (c .session-of .ensures)
 
@@ -54,7 +54,7 @@ loop-again c =
     let start = c .before .before .before .before .before .before .before .before in
     let a = start .args in
     let e = seen (a .t1) (a .guest) (a .number) i (guest .result) (found .result) (guest .ensures) (found .ensures) in
-    omega (arith, slots-later (a .t1) (start .good .0) (live (a .t1) (a .guest) (a .number)) i _ (found .result) (omega arith) refl e (c .if1 .left))
+    omega (arith, slots-later (a .t1) (start .good .0) (live (a .t1) (a .guest) (a .number)) i (found .result) (omega arith) e (c .if1 .left))
 
 returns-2 : tie.Need-returns-2 Inv-loop μ-loop
 returns-2 c =
