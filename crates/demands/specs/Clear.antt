@@ -12,12 +12,11 @@ use borrow.Author.Tests.{ltb-true}
 use Rattle.lists.specs.Test.{and-true}
 use Rattle.lists.specs.Seek.{count, index, count-map, index-map, map-map, map-same, map-set, getD-map}
 use Rattle.lists.specs.Sum.{sumTo, except}
-use Rattle.model.specs.declared.Config.{Config}
 use Rattle.model.specs.declared.Guest.{Guest}
 use Rattle.model.specs.declared.Table.{Table}
 use Rattle.model.specs.Session.{World, Place, free, slotsOf, withSlots, areaSize, placeAt, newGuest, guestAt, area, zeros, holding, slotOf, occupiedBy}
 use Rattle.model.specs.View.{isHeld, isFree, owned, given, live, freeAt, liveAt, holds, noRoom, full, entryAt, find, view, setting}
-use Rattle.model.specs.Act.{Act, refuse, pass, attach, create, destroy, withSlot, released, without, withGuest, restarted, numbered, tableAfter, storeAfter, withArea, wipe, after, judge}
+use Rattle.model.specs.Act.{Act, refuse, pass, attach, create, destroy, released, restarted, numbered, tableAfter, storeAfter, withArea, wipe, after, judge}
 use Rattle.model.specs.Answer.{firstFail}
 use Rattle.model.specs.Device.{Request, checksOf, asks, outcome, checks, act, reply, next}
 use Rattle.model.specs.Calls.{Call, run, outcomes}

@@ -11,7 +11,7 @@ use Rattle.lists.specs.Seek.{count, count-map, count-none, All-every}
 use Rattle.model.specs.Answer.{ok, badGuest, firstFail}
 use Rattle.model.specs.Session.{storeSize, World, Place, free, slotsOf, guestAt}
 use Rattle.model.specs.View.{owned, holds}
-use Rattle.model.specs.Act.{released, without, restarted, tableAfter}
+use Rattle.model.specs.Act.{released, tableAfter}
 use Rattle.model.specs.Setup.{setUp}
 use Rattle.model.specs.Device.{Request, Attach, Control, Admit, outcome, checksOf, checks, reply, next}
 use Rattle.model.specs.Calls.{Call, noted, past, run, WellFormed}

@@ -3,8 +3,8 @@
 use mathlib.Core.Path.{_≡_, refl, sym, ap, _∙_}
 use mathlib.Core.Bool.{Bool, true, false, cond}
 use mathlib.Core.Option.{none, some}
-use mathlib.Core.List.{List, map}
-use Prim.Native.Nat.{ℕ, suc, _-_, _<_}
+use mathlib.Core.List.{List}
+use Prim.Native.Nat.{ℕ, _-_, _<_}
 use native.Mathlib.Omega.{arith}
 use lib.Dec.{ltb}
 use borrow.Author.Tests.{eqb-true, ltb-true, ltb-false}
@@ -12,10 +12,9 @@ use lib.ListN.{length, set, length-replicate}
 use Rattle.lists.specs.Seek.{index, first, swap, swap-set, first-index, index-first, index-none}
 use Rattle.lists.specs.Sum.{except, sum-same, except-same}
 use Rattle.model.specs.declared.Table.{Table}
-use Rattle.model.specs.declared.Guest.{Guest}
-use Rattle.model.specs.Session.{slotCount, areaSize, storeSize, World, Place, free, holding, slotsOf, guestAt, zeros}
+use Rattle.model.specs.Session.{slotCount, areaSize, storeSize, World, Place, free, slotsOf, guestAt, zeros}
 use Rattle.model.specs.View.{isFree, isHeld, owned, live, freeAt, liveAt, holds, total, unmet, full, entryAt, find, view, setting}
-use Rattle.model.specs.Act.{Act, refuse, pass, attach, create, destroy, withSlot, released, without, withGuest, restarted, numbered, tableAfter, storeAfter, withArea, wipe, after}
+use Rattle.model.specs.Act.{Act, refuse, pass, attach, create, destroy, released, tableAfter, storeAfter, withArea, wipe, after}
 use Rattle.history.specs.Cells as Cells
 use Rattle.history.specs.Cells.{Cell, State, stored, noCell}
 use Rattle.history.specs.Apply.{apply, release}
