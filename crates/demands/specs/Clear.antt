@@ -132,7 +132,7 @@ module _ (w : World) where
       noRoom (guest g i) (counted (owned g) (blind-owned g) i) (counted isHeld blind-held i)
       (sumTo 8 (except g (λ h. guest h i .reserve - counted (owned h) (blind-owned h) i))) (counted isFree blind-free i)
 
-  pub same-reply : (g : ℕ) (q : Request) → reply s g q ≡ reply w g q
+  same-reply : (g : ℕ) (q : Request) → reply s g q ≡ reply w g q
   unfolding reply checks
   same-reply g q i = outcome g (same-view g i) q (firstFail (checksOf (same-setting i) g (same-view g i) (same-full g i) q))
 
