@@ -1,4 +1,4 @@
-// The yardstick: data admission, finish and control in ordinary Rust, written from paper 01 and tickets K2, K4 and K12 alone. The table is
+// The yardstick: data admission, finish and control in ordinary Rust, written from paper 01 and tickets K2, K4 and K12. The table is
 // passed by value, as the library's is; the forms that end in `_ref` take it by reference.
 use std::slice::{from_raw_parts, from_raw_parts_mut};
 
