@@ -7,6 +7,7 @@ use crate::second::{self, answer};
 use std::fmt::Debug;
 
 /// What a call is made on.
+#[derive(Clone)]
 pub struct State {
     pub table: host::Table,
     pub store: Vec<u8>,
@@ -309,6 +310,26 @@ fn compare(second: &Outcome<'_>, device: &Outcome<'_>) -> Result<(), String> {
         same(ours.name, &ours.bytes, &theirs.bytes)?;
     }
     Ok(())
+}
+
+/// What the device gives its caller, with the bytes of a part or key and not their place.
+#[derive(Debug, PartialEq)]
+pub struct Gets {
+    pub answer: u8,
+    writable: Vec<u8>,
+    named: Admission,
+    pieces: Vec<Option<Vec<u8>>>,
+}
+
+pub fn gets(state: &State, call: &Call) -> Gets {
+    let outcome = by_device(state, call);
+    let bytes = |piece: &Piece<'_>| piece.bytes.map(<[u8]>::to_vec);
+    Gets {
+        answer: outcome.answer,
+        pieces: outcome.pieces.iter().map(bytes).collect(),
+        writable: outcome.writable,
+        named: outcome.named,
+    }
 }
 
 /// Makes the call on both. Gives the state after it, or the whole account of a disagreement.

@@ -2,6 +2,7 @@
 //! alone.
 //!
 //! second calls SEED [COUNT]: random calls on both.
+//! second pairs SEED COUNT: random pairs of histories in which one guest makes the same calls.
 //! second replay BIN SEED COUNT: random traces through the program BIN and the second program.
 //! second trace: what the second program prints for the trace on standard input.
 
@@ -11,6 +12,7 @@ mod make;
 mod make_request;
 mod make_table;
 mod make_trace;
+mod pairs;
 mod report;
 mod requests;
 mod rng;
@@ -35,11 +37,14 @@ fn main() -> ExitCode {
     let done = match words[..] {
         ["calls", seed] => number(seed).and_then(|seed| calls(seed, 1_000_000)),
         ["calls", seed, count] => number(seed).and_then(|seed| calls(seed, number(count)?)),
+        ["pairs", seed, count] => {
+            number(seed).and_then(|seed| pairs::pairs(seed, number(count)?))
+        }
         ["replay", program, seed, count] => {
             number(seed).and_then(|seed| replay(program, seed, number(count)?))
         }
         ["trace"] => print_trace(),
-        _ => Err("second calls SEED [COUNT] | replay BIN SEED COUNT | trace\n".to_string()),
+        _ => Err("second calls SEED [COUNT] | pairs SEED COUNT | replay BIN SEED COUNT | trace\n".to_string()),
     };
     match done {
         Ok(text) => {

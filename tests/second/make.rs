@@ -13,6 +13,23 @@ pub enum Call {
     Finish(Finish),
 }
 
+impl Call {
+    /// The guest that it names; a set-up names none.
+    pub fn guest(&self) -> Option<u8> {
+        match self {
+            Call::SetUp(_) => None,
+            Call::Attach { guest, .. } | Call::Key { guest, .. } => Some(*guest),
+            Call::Control(request) | Call::Data(request) => Some(request.guest),
+            Call::Finish(finish) => Some(finish.guest),
+        }
+    }
+
+    /// A control request whose opcode is a create's.
+    pub fn creates(&self) -> bool {
+        matches!(self, Call::Control(request) if request.readable.first() == Some(&2))
+    }
+}
+
 pub struct SetUp {
     pub config: Vec<u8>,
     pub reserves: [u8; GUESTS],

@@ -3,3 +3,4 @@ pub mod Script
 pub mod Starred
 pub mod Long
 pub mod Facts
+pub mod Greedy

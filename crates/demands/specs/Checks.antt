@@ -9,9 +9,8 @@ use Rattle.model.specs.Session.{Entry}
 use Rattle.model.specs.View.{Setting, View}
 use Rattle.model.specs.Act.{Act, refuse, create, judge}
 use Rattle.laws.specs.Judge.{Passed}
-use Rattle.history.specs.Apply.{gate}
+use Rattle.history.specs.Apply.{gate, Creates}
 use Rattle.history.specs.Lawful.{Lawful}
-use Rattle.history.specs.Alone.{Creates}
 
 pub lawful-judge : (k : Setting) (g : ℕ) (v : View) (cs : List Check) (a : Act) → (Passed cs → Lawful k g v a) → Lawful k g v (judge cs a)
 lawful-judge k g v [] a h = h tt

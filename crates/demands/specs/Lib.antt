@@ -7,6 +7,8 @@ pub mod Checks
 pub mod Instance
 pub mod Start
 pub mod Steps
+pub mod Formed
+pub mod Learn
 pub mod History
 pub mod Demand3
 pub mod ZeroRule

@@ -13,12 +13,12 @@ use Rattle.model.specs.Answer.{ok, err, badmsg, notsupp, invsess, nospc, badGue
 use Rattle.model.specs.Lens.{orIn}
 use Rattle.model.specs.Algorithm.{cipher, aead, ccm, ivOk}
 use Rattle.model.specs.Session.{slotCount, lastNumber, World, Place, free, slotsOf, withSlots, placeAt, guestAt, directed}
-use Rattle.model.specs.View.{live, liveAt, find, holds, total}
+use Rattle.model.specs.View.{live, liveAt, find, holds, total, view, full}
 use Rattle.model.specs.Setup.{configOf, freshTable, setUpChecks, setUpAnswer, setUp}
-use Rattle.model.specs.Control.{opcode, service, isCreate}
+use Rattle.model.specs.Control.{opcode, service, isCreate, numbersLeft}
 use Rattle.model.specs.Data.{number, flag, operationOk, directionOf, start, lengths, fits, partOf, keyBytes, status}
 use Rattle.model.specs.Device.{Request, Attach, Control, Admit, Part, KeyAnswer, Key, Finish, Outcome, noJob, checks, reply, next}
-use Rattle.model.specs.Calls.{Call, run, outcomes, only, pastOf, WellFormed}
+use Rattle.model.specs.Calls.{Call, run, outcomes, only, At, pastOf, WellFormed}
 use Rattle.laws.specs.Judge.{Passed}
 
 -- ---- demand 1: every input gets a defined answer; a refusal has its number, writes only its outcome bytes and changes nothing
@@ -239,3 +239,38 @@ pub record Demand3 (w : World) (cs : List (Call Request)) : Type 0 where
   -- and the table knows of each guest what the history says: whether it is attached, and the last number given to it
   pub attached : (g : ℕ) → guestAt (run w cs .table) g .attached ≡ pastOf g w cs .attached
   pub last : (g : ℕ) → guestAt (run w cs .table) g .last ≡ pastOf g w cs .last
+
+-- ---- ticket K7: "two histories from the same set-up in which one guest makes the same calls and the others differ at will"
+
+-- "a create refused for room", by its cause and not by its number: well-formed, with numbers left, and NOSPC's condition is true
+pub record RefusedForRoom (w : World) (g : ℕ) (r b : List ℕ) : Type 0 where
+  pub formed : WellFormed w g r b
+  pub numbers : numbersLeft (view w g) ≡ true
+  pub crowded : full (w .table) g ≡ true
+  pub refused : reply w g (Control r b) .answer ≡ ok → ⊥
+
+-- guest g got the same over the history cs from w and over the history ds from x
+pub record Same (g : ℕ) (w x : World) (cs ds : List (Call Request)) : Type 0 where
+  -- call by call, each answer, outcome byte and other writable byte, each session number and operation named, each part and key handed on
+  pub got : outcomes g w cs ≡ outcomes g x ds
+  -- and all that is kept for it is the same: its record, how many sessions it holds, and each live session with its key
+  pub kept : view (run w cs) g ≡ view (run x ds) g
+
+-- "the first answer that differs for that guest": that to one control request, which it makes in both histories
+pub record FirstDifference (g : ℕ) (w x : World) (cs ds : List (Call Request)) : Type 0 where
+  pub readable : List ℕ
+  pub writable : List ℕ
+  pub here : At g (Control readable writable) cs
+  pub there : At g (Control readable writable) ds
+  -- "is a create
+  pub create : isCreate readable ≡ true
+  -- refused for room in one and granted in the other"
+  pub room :
+      (RefusedForRoom (run w (here .before)) g readable writable × (reply (run x (there .before)) g (Control readable writable) .answer ≡ ok))
+      ⊎ (RefusedForRoom (run x (there .before)) g readable writable × (reply (run w (here .before)) g (Control readable writable) .answer ≡ ok))
+  -- "Up to there every answer, outcome byte, session number and key is equal"
+  pub before : Same g w x (here .before) (there .before)
+
+-- "if any"
+abbrev pub Learns : ℕ → World → World → List (Call Request) → List (Call Request) → Type 0
+Learns g w x cs ds = Same g w x cs ds ⊎ FirstDifference g w x cs ds

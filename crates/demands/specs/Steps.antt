@@ -26,6 +26,10 @@ use Rattle.demands.specs.Instance.{decide, decided, rules}
 abbrev pub nextState : State → Call Request → State
 nextState s c = Rules.next rules s c
 
+-- what a call asks for, by every check but the room
+pub same-wish : (w : World) (c : Call Request) → Rules.wish rules (stateOf w) c ≡ decide (setting w) (c .guest) (view w (c .guest)) (c .request)
+same-wish w c = ap (λ v. decide (setting w) (c .guest) v (c .request)) (view-slots w (c .guest))
+
 pub same-act : (w : World) (c : Call Request) → Rules.act rules (stateOf w) c ≡ act w (c .guest) (c .request)
 unfolding act checks
 same-act w c =
@@ -58,3 +62,18 @@ same-outcomes g w [] v = refl
 same-outcomes g w (c ∷ cs) v =
     let k = same-outcomes g (next w (c .guest) (c .request)) cs (inv-step w c v) ∙ ap (λ s. Rules.outcomes rules g s cs) (same-next w c v) in
     ap₂ (λ o l. cond (eqb (c .guest) g) (o ∷ l) l) (sym (same-reply w c)) k
+
+-- ---- after a list of calls
+
+module _ (w : World) (cs : List (Call Request)) (v : Inv (stateOf w)) where
+  abbrev after : State
+  after = Rules.run rules (stateOf w) cs
+
+  pub run-view : (g : ℕ) → Cells.view after g ≡ view (run w cs) g
+  run-view g = ap (λ s. Cells.view s g) (sym (same-run w cs v)) ∙ view-slots (run w cs) g
+
+  pub run-full : (g : ℕ) → Cells.full after g ≡ full (run w cs .table) g
+  run-full g = ap (λ s. Cells.full s g) (sym (same-run w cs v)) ∙ full-slots (run w cs) g
+
+  pub run-wish : (c : Call Request) → Rules.wish rules after c ≡ decide (setting (run w cs)) (c .guest) (view (run w cs) (c .guest)) (c .request)
+  run-wish c = ap (λ s. Rules.wish rules s c) (sym (same-run w cs v)) ∙ same-wish (run w cs) c

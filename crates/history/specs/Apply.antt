@@ -21,6 +21,14 @@ gate f attach = attach
 gate f (create e) = cond f (refuse nospc) (create e)
 gate f (destroy n) = destroy n
 
+-- an act that it can refuse
+abbrev pub Creates : Act → Type 0
+Creates (refuse n) = ⊥
+Creates pass = ⊥
+Creates attach = ⊥
+Creates (create e) = Unit {0}
+Creates (destroy n) = ⊥
+
 abbrev pub release : ℕ → Cell → Cell
 release g c = cond (owns g c) noCell c
 

@@ -5,13 +5,15 @@ use mathlib.Core.Bool.{false}
 use mathlib.Core.List.{List}
 use Prim.Native.Nat.{ℕ, _≤_, _<_}
 use native.Mathlib.Omega.{arith}
-use Rattle.history.specs.Cells.{State, view, guestOf, holds, total, owns}
+use Rattle.history.specs.Cells.{State, view, guestOf, holds, total, owns, full}
 use Rattle.model.specs.Session.{slotCount}
 use Rattle.model.specs.Calls.{only, begun}
 use Rattle.history.specs.Good.{free-owns}
 use Rattle.history.specs.Invariant.{Inv, Fresh, inv-fresh, none-held}
-use Rattle.history.specs.Rules.{Rules, Call, wish, act, run, outcomes, inv-run, shares-run}
-use Rattle.history.specs.Alone.{Creates, Modest, grant, alone}
+use Rattle.history.specs.Rules.{Rules, Call, wish, run, inv-run, shares-run}
+use Rattle.history.specs.Apply.{Creates}
+use Rattle.history.specs.Learn.{Same}
+use Rattle.history.specs.Alone.{Modest, grant, modest-same}
 use Rattle.history.specs.Past.{Told, past, told}
 
 module _ (R : Rules) (s : State) where
@@ -19,10 +21,10 @@ module _ (R : Rules) (s : State) where
     -- no guest holds more than its cap, nor all together more than 128
     pub caps : (g : ℕ) → holds (run R s cs) g ≤ guestOf s g .cap
     pub bound : total (run R s cs) ≤ slotCount
-    -- a create that comes next, passes every other check and finds its guest below its reserve is granted
-    pub grants : (c : Call R) → Creates (wish R (run R s cs) c) → holds (run R s cs) (c .guest) < guestOf s (c .guest) .reserve → act R (run R s cs) c ≡ wish R (run R s cs) c
-    -- a guest that keeps within its reserve gets what it would get alone
-    pub same : (g : ℕ) → Modest R g s cs → outcomes R g s cs ≡ outcomes R g s (only g cs)
+    -- a create that comes next, passes every other check and finds its guest below its reserve finds room
+    pub grants : (c : Call R) → Creates (wish R (run R s cs) c) → holds (run R s cs) (c .guest) < guestOf s (c .guest) .reserve → full (run R s cs) (c .guest) ≡ false
+    -- a guest that keeps within its reserve gets the same in every list with the same calls of its own
+    pub same : (g : ℕ) (ds : List (Call R)) → only g cs ≡ only g ds → Modest R g s cs → Same R g s s cs ds
     -- what a guest holds, its last number and whether it is attached, by its granted calls since its last granted attach
     pub history : (g : ℕ) → Told (past R g (begun false) s cs) (view (run R s cs) g)
 
@@ -31,7 +33,7 @@ module _ (R : Rules) (s : State) where
     caps = λ g. omega (arith, v .caps g, shares g .1);
     bound = omega (arith, v .spare);
     grants = λ c w h. grant R (run R s cs) c v w (omega (arith, h, shares (c .guest) .0));
-    same = λ g m. alone R g s s cs (record { left = i; right = i; setting = refl; seen = refl }) m;
+    same = λ g ds e m. modest-same R g s s cs ds (record { left = i; right = i; setting = refl; seen = refl }) e m;
     history = λ g. told R s cs g (begun false) i (record { attached = f .unattached g; holds = omega (arith, none-held s (owns g) f (free-owns g)); last = f .unnumbered g; numbers = refl });
   }
     where

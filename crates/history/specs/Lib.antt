@@ -5,6 +5,7 @@ pub mod Lawful
 pub mod Views
 pub mod Invariant
 pub mod Rules
+pub mod Learn
 pub mod Alone
 pub mod Past
 pub mod Demand

@@ -2,7 +2,7 @@
 use Prim.Native.Nat.{ℕ, suc}
 use mathlib.Core.Path.{_≡_}
 use mathlib.Core.Bool.{Bool, true, false, cond}
-use mathlib.Core.List.{List, [], _∷_}
+use mathlib.Core.List.{List, [], _∷_, _++_}
 use lib.Dec.{eqb}
 use lib.ListN.{length}
 use Rattle.model.specs.Bytes.{le64}
@@ -34,6 +34,12 @@ outcomes g w (c ∷ cs) =
 unfoldable pub only : {Q : Type 0} → ℕ → List (Call Q) → List (Call Q)
 only g [] = []
 only g (c ∷ cs) = cond (eqb (c .guest) g) (c ∷ only g cs) (only g cs)
+
+-- a place in the list cs where guest g makes request q: the calls before it, and those after
+pub record At {Q : Type 0} (g : ℕ) (q : Q) (cs : List (Call Q)) : Type 0 where
+  pub before : List (Call Q)
+  pub after : List (Call Q)
+  pub whole : cs ≡ before ++ record { guest = g; request = q } ∷ after
 
 -- ---- the history of one guest
 
