@@ -24,7 +24,7 @@ use Rattle.demands.specs.Instance.{rules}
 use Rattle.demands.specs.Start.{fresh}
 use Rattle.demands.specs.Steps.{same-run, run-view, run-full, run-wish}
 use Rattle.demands.specs.Formed.{formed-creates, create-answer}
-use Rattle.demands.specs.Learn.{unlearned}
+use Rattle.demands.specs.Learn.{learns-nothing}
 use Rattle.demands.specs.History.{same-past}
 
 -- the calls of one guest are its own
@@ -42,7 +42,7 @@ demand3 config reserves caps store cs = record {
   caps = λ g. omega (arith, d .caps g, held g);
   bound = omega (arith, d .bound, total-slots t, ap Cells.total state);
   grants = λ g r b a f n h. granted g r b f (λ e. n (omega (arith, e))) (omega (arith, h));
-  same = λ g h. unlearned config reserves caps store g cs (only g cs) (sym (only-only g cs)) h .got;
+  same = λ g h. learns-nothing config reserves caps store g cs (only g cs) (sym (only-only g cs)) h .got;
   history = λ g. omega (arith, held g, told g .holds);
   numbers = λ g. told g .numbers;
   range = λ g. omega (arith, told-here g .last, kept .numbers g);

@@ -18,7 +18,7 @@ use Rattle.model.specs.Calls.{WellFormed}
 use Rattle.history.specs.Apply.{Creates}
 use Rattle.history.specs.Learn.{gate-answer}
 use Rattle.laws.specs.Kind.{by-kind}
-use Rattle.laws.specs.Judge.{Passed, first-passed, passed-first, passed-front, passed-both, holds-at, judge-passed}
+use Rattle.laws.specs.Judge.{Passed, first-passed, passed-first, passed-both, judge-passed, create-passed}
 use Rattle.laws.specs.Effect.{act-first}
 use Rattle.demands.specs.Checks.{creates-judge}
 use Rattle.demands.specs.Instance.{decide, decided}
@@ -29,8 +29,8 @@ unfolding checksOf
 control-formed w g r b =
     by-kind (λ t cs a. Creates (judge (cs false) a) → ((t ≡ true) × (firstFail form ≡ ok)) × (numbersLeft v ≡ true)) k g v r (length b)
     (λ e h.
-    let p = creates-judge (createChecks k g v false r (length b)) (create (newEntry r)) h .0 in
-    ((refl, passed-first form (passed-front form ((numbersLeft v, err) ∷ (true, nospc) ∷ []) p)), holds-at (createChecks k g v false r (length b)) 13 p))
+    let p = create-passed k g v false r (length b) (creates-judge (createChecks k g v false r (length b)) (create (newEntry r)) h .0) in
+    ((refl, passed-first form (p .0)), p .1))
     (λ e h. absurd (creates-judge (destroyChecks k g v r (length b)) (destroy (le64 r 16)) h .1))
   where
     k : Setting

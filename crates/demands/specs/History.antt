@@ -13,7 +13,7 @@ use Rattle.model.specs.Answer.{ok, firstFail, granted, controlOutcome, controlB
 use Rattle.model.specs.Session.{lastNumber, World}
 use Rattle.model.specs.View.{Setting, View, setting, view, full}
 use Rattle.model.specs.Act.{Act, refuse, pass, attach, create, destroy, answerOf}
-use Rattle.model.specs.Control.{isCreate, createChecks, controlChecks, controlAct}
+use Rattle.model.specs.Control.{isCreate, controlChecks, controlAct}
 use Rattle.model.specs.Device.{Request, Attach, Control, Admit, Part, KeyAnswer, Key, Finish, checksOf, checks, asks, outcome, act, reply, next}
 use Rattle.model.specs.Calls.{Call, Past, created, destroyed, noted, past}
 use Rattle.history.specs.Cells as Cells
@@ -23,7 +23,7 @@ use Rattle.history.specs.Invariant.{Inv}
 use Rattle.follows.specs.Follows.{stateOf, view-slots}
 use Rattle.laws.specs.Numbers.{le64-le}
 use Rattle.laws.specs.Kind.{by-kind}
-use Rattle.laws.specs.Judge.{Passed, holds-at}
+use Rattle.laws.specs.Judge.{Passed, create-passed}
 use Rattle.laws.specs.Effect.{act-first, act-granted, checks-passed}
 use Rattle.demands.specs.Outcomes.{control-room}
 use Rattle.demands.specs.Instance.{rules}
@@ -42,7 +42,7 @@ noted-control p k g v f r b h =
     by-kind
     (λ t cs a. Passed (cs f) → length b ≡ cond t 16 1 → Past.noted p v a ≡ cond t (created (le64 (controlBytes b (cond t (suc (v .guest .last)) 0) ok) 0) p) (destroyed p))
     k g v r (length b)
-    (λ e q room. ap (λ (n : ℕ). created n p) (sym (named-number b (v .guest .last) room (ltb-true (v .guest .last) lastNumber (holds-at (createChecks k g v f r (length b)) 13 q)))))
+    (λ e q room. ap (λ (n : ℕ). created n p) (sym (named-number b (v .guest .last) room (ltb-true (v .guest .last) lastNumber (create-passed k g v f r (length b) q .1)))))
     (λ e q room. refl)
     h (control-room k g v f r (length b) h)
 

@@ -21,7 +21,7 @@ use Rattle.history.specs.Apply.{gate}
 use Rattle.history.specs.Lawful.{Lawful, Known, Creatable}
 use Rattle.history.specs.Rules.{Rules}
 use Rattle.laws.specs.Kind.{by-kind}
-use Rattle.laws.specs.Judge.{Passed, holds-at}
+use Rattle.laws.specs.Judge.{Passed, holds-at, create-passed}
 use Rattle.laws.specs.Areas.{length-keyArea}
 use Rattle.demands.specs.Checks.{lawful-judge, gate-other, gate-create}
 
@@ -60,7 +60,7 @@ create-lawful : (k : Setting) (g : ℕ) (v : View) (r : List ℕ) (w : ℕ) → 
 unfolding newEntry accepts
 create-lawful k g v r w p = record {
   attached = attached-of g v (holds-at (createChecks k g v false r w) 1 p);
-  left = ltb-true (v .guest .last) lastNumber (holds-at (createChecks k g v false r w) 13 p);
+  left = ltb-true (v .guest .last) lastNumber (create-passed k g v false r w p .1);
   sound = record {
     accepted = rw (holds-at (createChecks k g v false r w) 8 p, holds-at (createChecks k g v false r w) 10 p, holds-at (createChecks k g v false r w) 11 p);
     whole = length-areaOf (asked r .service) _;

@@ -110,5 +110,5 @@ module _ (config reserves caps store : List ℕ) (g : ℕ) (cs ds : List (Call R
   learns = learns-here g w w v v cs ds (Learn.learn rules g (stateOf w) (stateOf w) cs ds (record { left = v; right = v; setting = refl; seen = refl }) e)
 
   -- and one that stays within its reserve learns nothing
-  pub unlearned : Within g (setUp config reserves caps store) cs → Same g (setUp config reserves caps store) (setUp config reserves caps store) cs ds
-  unlearned h = same g w w v v cs ds (demand rules (stateOf w) cs (fresh config reserves caps store) .same g ds e (modest g w cs v h))
+  pub learns-nothing : Within g (setUp config reserves caps store) cs → Same g (setUp config reserves caps store) (setUp config reserves caps store) cs ds
+  learns-nothing h = same g w w v v cs ds (demand rules (stateOf w) cs (fresh config reserves caps store) .same g ds e (modest g w cs v h))

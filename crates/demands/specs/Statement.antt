@@ -268,7 +268,7 @@ pub record FirstDifference (g : ℕ) (w x : World) (cs ds : List (Call Request))
   pub room :
       (RefusedForRoom (run w (here .before)) g readable writable × (reply (run x (there .before)) g (Control readable writable) .answer ≡ ok))
       ⊎ (RefusedForRoom (run x (there .before)) g readable writable × (reply (run w (here .before)) g (Control readable writable) .answer ≡ ok))
-  -- "Up to there every answer, outcome byte, session number and key is equal"
+  -- "Up to there every answer, outcome byte, session number and key is equal"; so it is the same call of the guest in both
   pub before : Same g w x (here .before) (there .before)
 
 -- "if any"

@@ -8,9 +8,10 @@ use lib.Dec.{eqb}
 use lib.ListN.{getD, length}
 use borrow.Author.Tests.{eqb-false, not-true}
 use Rattle.lists.specs.Test.{and-true}
-use Rattle.model.specs.Answer.{ok, Check, firstFail}
+use Rattle.model.specs.Answer.{ok, err, nospc, Check, firstFail}
 use Rattle.model.specs.View.{Setting, View}
 use Rattle.model.specs.Act.{Act, refuse, judge, answerOf}
+use Rattle.model.specs.Control.{formChecks, numbersLeft, createChecks}
 use Rattle.model.specs.Device.{Request, Attach, Control, Admit, Part, KeyAnswer, Key, Finish, checksOf}
 use Rattle.laws.specs.Kind.{by-kind}
 
@@ -52,10 +53,14 @@ holds-at [] i p = refl
 holds-at (c ∷ cs) zero p = p .0
 holds-at (c ∷ cs) (suc i) p = holds-at cs i (p .1)
 
--- the checks of the first list hold
+-- the checks of the first list hold, and those of the second
 pub passed-front : (cs ds : List Check) → Passed (cs ++ ds) → Passed cs
 passed-front [] ds p = tt
 passed-front (c ∷ cs) ds p = (p .0, passed-front cs ds (p .1))
+
+passed-back : (cs ds : List Check) → Passed (cs ++ ds) → Passed ds
+passed-back [] ds p = p
+passed-back (c ∷ cs) ds p = passed-back cs ds (p .1)
 
 pub passed-both : (cs ds : List Check) → Passed cs → Passed ds → Passed (cs ++ ds)
 passed-both [] ds p q = q
@@ -88,3 +93,15 @@ answers-of k g v f (Part x r w) = refl
 answers-of k g v f (KeyAnswer n) = refl
 answers-of k g v f (Key n) = refl
 answers-of k g v f (Finish op verdict w) = refl
+
+-- ---- a create that passes every check is well-formed and has numbers left
+
+pub create-passed : (k : Setting) (g : ℕ) (v : View) (f : Bool) (r : List ℕ) (room : ℕ) → Passed (createChecks k g v f r room)
+    → Passed (formChecks k g v r room) × (numbersLeft v ≡ true)
+create-passed k g v f r room p = (passed-front form rest p, passed-back form rest p .0)
+  where
+    form : List Check
+    form = formChecks k g v r room
+
+    rest : List Check
+    rest = (numbersLeft v, err) ∷ (not f, nospc) ∷ []
