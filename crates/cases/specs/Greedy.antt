@@ -12,13 +12,13 @@ use Rattle.model.specs.Bytes.{le, le32, le64, part, padded}
 use Rattle.model.specs.Answer.{ok, nospc, firstFail, controlOutcome, dataOutcome, controlBytes, dataBytes}
 use Rattle.model.specs.Algorithm.{known, keyOk, resultOk, ivOk, sourceOk, decryptedOk, writtenOk, payloadOk}
 use Rattle.model.specs.Session.{storeSize, World, slotOf, bitsOf, wordOf, marksOf, occupiedBy, slotsOf, withSlots, newGuest, keyStart, keyArea, areaOf, keyLen, keyOf, bit, offers, directionOk, lengthsOk, accepts}
-use Rattle.model.specs.View.{present, find, noRoom, full}
+use Rattle.model.specs.View.{liveAt, present, find, noRoom, full}
 use Rattle.model.specs.Act.{withSlot, without, withGuest, restarted, numbered, tableAfter, storeAfter, withArea, wipe}
 use Rattle.model.specs.Setup.{configOf, onlyBits, configOk, sharesOk, setUpAnswer, freshTable, setUp}
 use Rattle.model.specs.Control.{opcodeOk, asked, newEntry, controlChecks}
 use Rattle.model.specs.Data.{operationOk, lengths, fits, partOf, status}
 use Rattle.model.specs.Device.{Request, Attach, Key, Outcome, checksOf, outcome, checks, act, reply, next}
-use Rattle.model.specs.Calls.{Call, outcomes, only}
+use Rattle.model.specs.Calls.{Call, run, outcomes, only}
 use Rattle.demands.specs.Statement.{FirstDifference, Learns}
 use Rattle.demands.specs.Learn.{learns}
 use Rattle.cases.specs.Build.{offer, cipherCreate, hashCreate, macCreate, cipherData, asking, ending, sending}
@@ -78,12 +78,14 @@ pub record Computed : Type 0 where
   pub granted : answers (outcomes 0 start quiet) ≡ ok ∷ ok ∷ ok ∷ ok ∷ ok ∷ []
   pub refused : answers (outcomes 0 start busy) ≡ ok ∷ ok ∷ ok ∷ ok ∷ nospc ∷ []
   pub before : take 4 (outcomes 0 start quiet) ≡ take 4 (outcomes 0 start busy)
+  -- its session stands in another slot
+  pub places : (liveAt (run start quiet .table) 0 1 ≡ 0) × (liveAt (run start busy .table) 0 1 ≡ 1)
   -- in the third all it gets is that of the first
   pub unseen : outcomes 0 start quiet ≡ outcomes 0 start returned
 
 pub computed : Computed
-unfolding le le32 le64 part padded firstFail controlOutcome dataOutcome controlBytes dataBytes known keyOk resultOk ivOk sourceOk decryptedOk writtenOk payloadOk slotOf bitsOf wordOf marksOf occupiedBy slotsOf withSlots newGuest keyStart keyArea areaOf keyLen keyOf bit offers directionOk lengthsOk accepts present find noRoom full withSlot without withGuest restarted numbered tableAfter storeAfter withArea wipe configOf onlyBits configOk sharesOk setUpAnswer freshTable setUp opcodeOk asked newEntry controlChecks operationOk lengths fits partOf status checksOf outcome checks act reply next sumTo only outcomes
-computed = record { calls = (refl, refl); granted = refl; refused = refl; before = refl; unseen = refl }
+unfolding le le32 le64 part padded firstFail controlOutcome dataOutcome controlBytes dataBytes known keyOk resultOk ivOk sourceOk decryptedOk writtenOk payloadOk slotOf bitsOf wordOf marksOf occupiedBy slotsOf withSlots newGuest keyStart keyArea areaOf keyLen keyOf bit offers directionOk lengthsOk accepts present find noRoom full withSlot without withGuest restarted numbered tableAfter storeAfter withArea wipe configOf onlyBits configOk sharesOk setUpAnswer freshTable setUp opcodeOk asked newEntry controlChecks operationOk lengths fits partOf status checksOf outcome checks act reply next sumTo only run outcomes
+computed = record { calls = (refl, refl); granted = refl; refused = refl; before = refl; places = (refl, refl); unseen = refl }
 
 -- so the theorem finds the difference
 pub seen : FirstDifference 0 start start quiet busy
