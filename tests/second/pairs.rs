@@ -59,6 +59,8 @@ fn pair(rng: &mut Rng, ends: &mut Ends, tally: &mut Tally) -> Result<(), String>
         there = others(rng, &theirs, guest, there, tally)?;
         let call = next(rng, &own, &here, |named| named == guest);
         let (one, other) = (gets(&here, &call), gets(&there, &call));
+        here = agreed(&here, &call, tally)?;
+        there = agreed(&there, &call, tally)?;
         ends.calls += 1;
         if one != other {
             ends.differ += 1;
@@ -66,8 +68,6 @@ fn pair(rng: &mut Rng, ends: &mut Ends, tally: &mut Tally) -> Result<(), String>
                 .then_some(())
                 .ok_or_else(|| account(&call, &format!("{one:?}\n{other:?}\n")));
         }
-        here = agreed(&here, &call, tally)?;
-        there = agreed(&there, &call, tally)?;
     }
     ends.same += 1;
     Ok(())

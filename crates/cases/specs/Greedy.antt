@@ -6,10 +6,10 @@ use native.Mathlib.Omega.{arith}
 use mathlib.Core.Path.{_≡_, refl, sym, ap, _∙_}
 use mathlib.Core.Logic.{inl, inr}
 use mathlib.Core.List.{List, [], _∷_, map}
-use lib.ListN.{replicate, take, getD}
+use lib.ListN.{replicate, take, set, getD}
 use Rattle.lists.specs.Sum.{sumTo}
 use Rattle.model.specs.Bytes.{le, le32, le64, part, padded}
-use Rattle.model.specs.Answer.{ok, nospc, firstFail, controlOutcome, dataOutcome, controlBytes, dataBytes}
+use Rattle.model.specs.Answer.{ok, notsupp, invsess, nospc, firstFail, controlOutcome, dataOutcome, controlBytes, dataBytes}
 use Rattle.model.specs.Algorithm.{known, keyOk, resultOk, ivOk, sourceOk, decryptedOk, writtenOk, payloadOk}
 use Rattle.model.specs.Session.{storeSize, World, slotOf, bitsOf, wordOf, marksOf, occupiedBy, slotsOf, withSlots, newGuest, keyStart, keyArea, areaOf, keyLen, keyOf, bit, offers, directionOk, lengthsOk, accepts}
 use Rattle.model.specs.View.{liveAt, present, find, noRoom, full}
@@ -32,6 +32,10 @@ caps = replicate 8 128
 
 abbrev start : World
 start = setUp offer reserves caps (replicate storeSize 0)
+
+-- the same without the cipher service
+abbrev elsewhere : World
+elsewhere = setUp (set offer 8 14) reserves caps (replicate storeSize 0)
 
 abbrev by : ℕ → Request → Call Request
 by g q = record { guest = g; request = q }
@@ -82,10 +86,12 @@ pub record Computed : Type 0 where
   pub places : (liveAt (run start quiet .table) 0 1 ≡ 0) × (liveAt (run start busy .table) 0 1 ≡ 1)
   -- in the third all it gets is that of the first
   pub unseen : outcomes 0 start quiet ≡ outcomes 0 start returned
+  -- from another set-up the first answer that differs need not be for room: its first create is answered 3
+  pub offered : answers (outcomes 0 elsewhere quiet) ≡ ok ∷ notsupp ∷ invsess ∷ notsupp ∷ ok ∷ []
 
 pub computed : Computed
 unfolding le le32 le64 part padded firstFail controlOutcome dataOutcome controlBytes dataBytes known keyOk resultOk ivOk sourceOk decryptedOk writtenOk payloadOk slotOf bitsOf wordOf marksOf occupiedBy slotsOf withSlots newGuest keyStart keyArea areaOf keyLen keyOf bit offers directionOk lengthsOk accepts present find noRoom full withSlot without withGuest restarted numbered tableAfter storeAfter withArea wipe configOf onlyBits configOk sharesOk setUpAnswer freshTable setUp opcodeOk asked newEntry controlChecks operationOk lengths fits partOf status checksOf outcome checks act reply next sumTo only run outcomes
-computed = record { calls = (refl, refl); granted = refl; refused = refl; before = refl; places = (refl, refl); unseen = refl }
+computed = record { calls = (refl, refl); granted = refl; refused = refl; before = refl; places = (refl, refl); unseen = refl; offered = refl }
 
 -- so the theorem finds the difference
 pub seen : FirstDifference 0 start start quiet busy

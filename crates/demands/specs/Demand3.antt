@@ -13,7 +13,7 @@ use Rattle.model.specs.Setup.{setUp}
 use Rattle.model.specs.Device.{Request, Control, reply}
 use Rattle.model.specs.Calls.{Call, Past, begun, pastOf, run, only, WellFormed}
 use Rattle.history.specs.Cells as Cells
-use Rattle.history.specs.Invariant.{Inv, inv-fresh}
+use Rattle.history.specs.Invariant.{Inv}
 use Rattle.history.specs.Rules as Rules
 use Rattle.history.specs.Apply.{Creates}
 use Rattle.history.specs.Past.{Told}
@@ -21,7 +21,7 @@ use Rattle.history.specs.Demand.{Demand, demand}
 use Rattle.follows.specs.Follows.{stateOf, holds-slots, total-slots}
 use Rattle.demands.specs.Statement.{Demand3}
 use Rattle.demands.specs.Instance.{rules}
-use Rattle.demands.specs.Start.{fresh}
+use Rattle.demands.specs.Start.{fresh, started}
 use Rattle.demands.specs.Steps.{same-run, run-view, run-full, run-wish}
 use Rattle.demands.specs.Formed.{formed-creates, create-answer}
 use Rattle.demands.specs.Learn.{learns-nothing}
@@ -57,7 +57,7 @@ demand3 config reserves caps store cs = record {
     t = run w cs
 
     v : Inv (stateOf w)
-    v = inv-fresh (stateOf w) (fresh config reserves caps store)
+    v = started config reserves caps store
 
     d : Demand rules (stateOf w) cs
     d = demand rules (stateOf w) cs (fresh config reserves caps store)

@@ -15,7 +15,7 @@ use Rattle.model.specs.Calls.{Call, run, only}
 use Rattle.history.specs.Cells as Cells
 use Rattle.history.specs.Cells.{State}
 use Rattle.history.specs.Apply.{Creates}
-use Rattle.history.specs.Invariant.{Inv, inv-fresh}
+use Rattle.history.specs.Invariant.{Inv}
 use Rattle.history.specs.Rules as Rules
 use Rattle.history.specs.Learn as Learn
 use Rattle.history.specs.Learn.{Parting}
@@ -24,7 +24,7 @@ use Rattle.history.specs.Demand.{demand}
 use Rattle.follows.specs.Follows.{stateOf, holds-slots}
 use Rattle.demands.specs.Statement.{Within, RefusedForRoom, Same, FirstDifference, Learns}
 use Rattle.demands.specs.Instance.{decide, rules}
-use Rattle.demands.specs.Start.{fresh}
+use Rattle.demands.specs.Start.{fresh, started}
 use Rattle.demands.specs.Steps.{same-wish, same-next, same-outcomes, inv-step, run-view, run-full, run-wish}
 use Rattle.demands.specs.Formed.{control-formed, creates-control, create-answer}
 
@@ -104,7 +104,7 @@ module _ (config reserves caps store : List ℕ) (g : ℕ) (cs ds : List (Call R
   w = setUp config reserves caps store
 
   v : Inv (stateOf w)
-  v = inv-fresh (stateOf w) (fresh config reserves caps store)
+  v = started config reserves caps store
 
   pub learns : Learns g (setUp config reserves caps store) (setUp config reserves caps store) cs ds
   learns = learns-here g w w v v cs ds (Learn.learn rules g (stateOf w) (stateOf w) cs ds (record { left = v; right = v; setting = refl; seen = refl }) e)

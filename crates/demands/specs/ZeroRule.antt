@@ -28,7 +28,7 @@ use Rattle.history.specs.Cells as Cells
 use Rattle.history.specs.Cells.{Cell, State, noCell}
 use Rattle.history.specs.Apply.{cellOf}
 use Rattle.history.specs.Good.{Good, matches-named}
-use Rattle.history.specs.Invariant.{Inv, inv-fresh}
+use Rattle.history.specs.Invariant.{Inv}
 use Rattle.history.specs.Rules as Rules
 use Rattle.history.specs.Rules.{inv-run, setting-run}
 use Rattle.history.specs.Zero.{Fills, all-run}
@@ -36,7 +36,7 @@ use Rattle.follows.specs.Areas.{cells, length-cells, getD-cells}
 use Rattle.laws.specs.Areas.{length-padded}
 use Rattle.follows.specs.Follows.{cellFrom, stateOf}
 use Rattle.demands.specs.Instance.{decide, rules}
-use Rattle.demands.specs.Start.{fresh}
+use Rattle.demands.specs.Start.{started}
 use Rattle.demands.specs.Steps.{same-run}
 
 -- ---- areas that are zero but for a key
@@ -221,6 +221,6 @@ pub zero-rule : (config reserves caps store : List ℕ) (cs : List (Call Request
     → ZeroRule (run (setUp config reserves caps store) cs)
 zero-rule config reserves caps store cs good =
     let e = good-world config reserves caps store good in
-    let v = subst (λ (w : World). Inv (stateOf w)) e (inv-fresh (stateOf (setUp config reserves caps store)) (fresh config reserves caps store)) in
+    let v = subst (λ (w : World). Inv (stateOf w)) e (started config reserves caps store) in
     subst (λ (w : World). ZeroRule (run w cs)) (sym e)
     (zero-run (goodWorld config reserves caps) cs v (length-replicate {A = ℕ} storeSize 0) (clean-start config reserves caps))
