@@ -8,10 +8,17 @@ ATTACH, CONTROL, DATA = 0, 1, 2
 CIPHER, HASH, MAC, AEAD = 0, 1, 2, 3
 AES_CBC, SHA_256, HMAC_SHA_256, GCM = 3, 4, 4, 1
 ENCRYPT, DECRYPT = 1, 2
+BAD = "bad trace\n"
 
 
 def words(*xs):
     return struct.pack("<%dI" % len(xs), *xs)
+
+
+def store(name, trace, printed):
+    (HERE / (name + ".trace")).write_bytes(trace)
+    (HERE / (name + ".out")).write_text(printed)
+    return len(trace), len(printed)
 
 
 class Trace:
@@ -35,8 +42,7 @@ class Trace:
         trailer = words(len(self.records) if distance is None else distance, len(self.answers) if count is None else count)
         lines = ["%d %d\n" % (i, a) for i, a in enumerate(self.answers)]
         lines.append("done %d %d\n" % (len(self.answers), self.answers.count(0)))
-        (HERE / (name + ".trace")).write_bytes(self.before + self.records + trailer)
-        (HERE / (name + ".out")).write_text("".join(lines) if good else "bad trace\n")
+        return store(name, self.before + self.records + trailer, "".join(lines) if good else BAD)
 
 
 # ---- requests: control header 16 bytes, data header 24
@@ -193,7 +199,15 @@ t = Trace()
 t.attach(0, 0)
 t.control(0, gcm_create(bytes(16), aad=61311), 0)
 t.data(0, gcm_data(1, 4079, aad=61311), 4096, 0)
-t.write("largest")
+size, _ = t.write("largest")
+assert size == 65536, size
+
+# the longest output: as many records as fit, of a head alone, each refused with two digits since the guest never attached; two bytes are left over
+t = Trace(before=bytes(2))
+for _ in range(10921):
+    t.data(0, b"", 0, 16)
+sizes = t.write("longest")
+assert sizes == (65536, 87192), sizes
 
 # ticket K4: a decryption reads ciphertext and tag, and writes what the source has more than the tag; an encryption writes its tag
 t = Trace()
@@ -230,4 +244,6 @@ t = Trace()
 t.attach(0, 0)
 t.add(DATA, 0, b"", 4097, 0)
 t.write("bad-writable", good=False)
-Trace(before=bytes(65529)).write("bad-length", good=False)
+size, _ = Trace(before=bytes(65529)).write("bad-length", good=False)
+assert size == 65537, size
+store("bad-empty", b"", BAD)

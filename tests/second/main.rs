@@ -125,20 +125,24 @@ fn singles(rng: &mut Rng, tally: &mut Tally) -> Result<(), String> {
 
 // ---- Traces ----
 
+/// A longer output does not fit into a buffer as long as the longest trace.
+const LONG: usize = 65_536;
+
 fn replay(program: &str, seed: u64, count: u64) -> Result<String, String> {
     let mut rng = Rng(seed);
     let mut answers = [[0u64; 22]; 3];
-    let mut bad = 0;
+    let (mut bad, mut long, mut longest) = (0, 0, 0);
     for index in 0..count {
         let trace = make_trace::trace(&mut rng);
         let expected = trace::text(&trace);
         let printed = printed(program, &trace).map_err(|error| format!("{program}: {error}\n"))?;
         if printed != expected.as_bytes() {
-            let (trace, printed) = (hex(&trace), String::from_utf8_lossy(&printed));
-            let both = format!("second prints\n{expected}device prints\n{printed}");
+            let account = difference(&trace, &expected, &printed);
             let place = format!("second: trace {index} disagrees, seed {seed}");
-            return Err(format!("trace {trace}\n{both}{place}\n"));
+            return Err(format!("{account}{place}\n"));
         }
+        long += u64::from(printed.len() > LONG);
+        longest = longest.max(printed.len());
         match trace::answers(&trace) {
             Some(records) => records
                 .iter()
@@ -154,9 +158,25 @@ fn replay(program: &str, seed: u64, count: u64) -> Result<String, String> {
             .collect();
         text += &format!("{kind:8} {}\n", given.join(", "));
     }
+    text += &format!("{long} printed more than {LONG} bytes, the longest {longest}\n");
+    // So many traces have long outputs among them, or the generator has lost them.
+    if count >= 1_000 && long == 0 {
+        return Err(format!("{text}second: no output is long, seed {seed}\n"));
+    }
     Ok(format!(
         "{text}second: {count} traces agree, {bad} of them bad, seed {seed}\n"
     ))
+}
+
+/// The trace, both texts, and the place where they part.
+fn difference(trace: &[u8], expected: &str, printed: &[u8]) -> String {
+    let pairs = expected.bytes().zip(printed);
+    let at = pairs
+        .take_while(|(second, device)| second == *device)
+        .count();
+    let (trace, printed) = (hex(trace), String::from_utf8_lossy(printed));
+    let both = format!("second prints\n{expected}device prints\n{printed}");
+    format!("trace {trace}\n{both}\nfirst difference: byte {at}\n")
 }
 
 /// What a program prints for a trace on its standard input.

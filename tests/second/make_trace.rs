@@ -12,7 +12,11 @@ const WIDEST: usize = 4_096;
 pub fn trace(rng: &mut Rng) -> Vec<u8> {
     let long = LONGEST - 8;
     let room = rng.pick(&[0, 60, 400, 400, 3_000, 3_000, 10_000, long, long]);
-    let mut records = records(rng, room);
+    let mut records = if rng.one_in(32) {
+        short_records(rng)
+    } else {
+        records(rng, room)
+    };
     let mut prefix = rng.pick(&[0, 0, 0, 1, 7, 40]);
     let body: usize = records.iter().map(Vec::len).sum();
     let spare = LONGEST - 8 - body;
@@ -109,6 +113,32 @@ fn records(rng: &mut Rng, room: usize) -> Vec<Vec<u8>> {
             1 => table.control(guest, &readable, &mut writable, &mut store),
             _ => Ok(()),
         };
+    }
+    records
+}
+
+/// Very many short records, up to the most that fit: they print more bytes than they have.
+fn short_records(rng: &mut Rng) -> Vec<Vec<u8>> {
+    let room = LONGEST - 8 - rng.pick(&[0, 0, 0, 6, 6, 9_000]);
+    // Heads alone are the most records, and without an attach each answer has two digits.
+    let heads = rng.one_in(3);
+    let (mut records, mut used) = (Vec::new(), 0);
+    while used + 6 <= room {
+        let guest = rng.pick(&[0, 0, 1, 7, 8, 255]);
+        let writable = rng.pick(&[0, 1, 2, 16, WIDEST]);
+        let record = if heads || !rng.one_in(12) {
+            record_of(rng.pick(&[1, 2]), guest, &[], writable)
+        } else if rng.one_in(4) {
+            let word = rng.pick(&[0, 1, 1, 1, 3]);
+            record_of(0, guest, &u32::to_le_bytes(word), writable)
+        } else {
+            let readable = rng.below(24) as usize;
+            record_of(rng.pick(&[1, 2]), guest, &rng.bytes(readable), writable)
+        };
+        if used + record.len() <= room {
+            used += record.len();
+            records.push(record);
+        }
     }
     records
 }

@@ -1,14 +1,14 @@
 -- Laws of replay's calls, one for each way out of the functions that make them, and of the answers so far. Assumes nothing.
-use Prim.Native.Nat.{ℕ, zero, suc, _+_, _-_, _≤_, _<_}
+use Prim.Native.Nat.{ℕ, suc, _+_, _-_, _≤_, _<_}
 use mathlib.Core.Path.{_≡_, refl, sym, _∙_, ap, subst}
 use mathlib.Core.Logic.{_⊎_, inl, inr}
-use mathlib.Core.Bool.{Bool, true, false, cond}
+use mathlib.Core.Bool.{Bool, true, false}
 use mathlib.Core.List.{List, [], _∷_, _++_, append-assoc, append-nil}
 use native.Mathlib.Omega.{arith}
-use lib.Dec.{eqb}
+use lib.Dec.{leb}
 use lib.ListN.{length, take, set, replicate, length-take, length-replicate}
 use lib.Seq.{take-all, length-take-le, take-suc-set}
-use borrow.Author.Tests.{eq-eqb, ne-eqb}
+use borrow.Author.Tests.{eq-eqb, ne-eqb, le-leb, lt-leb, leb-true, leb-false}
 use Rattle.lists.specs.Sum.{sumTo}
 use Rattle.lists.specs.Test.{same}
 use Rattle.model.specs.declared.Table.{Table}
@@ -24,7 +24,7 @@ use Rattle.trace.specs.declared.Records.{Records}
 use Rattle.trace.specs.Replay.{recordAt, recordsOf, goodTrace, requestOf, blank, callAt, callsFrom, callsOf, everything, startedOn, started, answersFrom, shown}
 use Rattle.tally.specs.declared.Tally.{Tally}
 use Rattle.tally.specs.Count.{tallyOf, none, afterAnswer}
-use Rattle.tally.specs.Laws.{tally-more, granted-within}
+use Rattle.tally.specs.Laws.{tally-more}
 use Rattle.text.specs.Lines.{text, Puts}
 use Rattle.replay.specs.Printed.{badTrace, printed}
 
@@ -162,30 +162,47 @@ module _ (s : List ℕ) (out : List ℕ) where
 
 -- ---- what is printed
 
-module _ (s before after : List ℕ) (end : ℕ) where
-  -- what `transcript` leaves
-  abbrev pub Transcript : Type 0
-  Transcript = (end ≤ length after) × (110000 ≤ length before → take end after ≡ printed s)
+long-bad : (s : List ℕ) → 65536 < length s → goodTrace s ≡ false
+unfolding goodTrace
+long-bad s h = rw (le-leb 8 (length s) (omega arith), lt-leb (length s - 8) 65528 (omega arith))
 
-  pub printed-bad : (good : Bool) → good ≡ goodTrace s → good ≡ false → Puts before 0 badTrace after end → Transcript
+-- what stands after the first 65,537 bytes changes nothing
+printed-cut : (n : ℕ) → 65537 ≤ n → (s : List ℕ) → printed (take n s) ≡ printed s
+unfolding printed
+printed-cut n h s = go (leb (length s) n) refl
+  where
+    go : (b : Bool) → leb (length s) n ≡ b → printed (take n s) ≡ printed s
+    go true e = ap printed (take-all n s (leb-true (length s) n e))
+    go false e =
+        let over = leb-false (length s) n e in
+        rw (long-bad (take n s) (omega (arith, length-take-le n s (omega arith))), long-bad s (omega arith))
+
+-- what the contract of `input` says of a buffer of n bytes, whose length is m
+pub input-enough : (m n : ℕ) → n ≡ m → 65537 ≤ n → (n ≡ m) × ((s : List ℕ) → printed (take m s) ≡ printed s)
+input-enough m n e h = (e, printed-cut m (omega arith))
+
+module _ (s before after : List ℕ) (end size : ℕ) (told : size ≡ end) where
+  -- what `transcript` gives
+  abbrev pub Whole : Type 0
+  Whole = (size ≤ length after) × (take size after ≡ printed s)
+
+  whole : end ≤ length after → take end after ≡ printed s → Whole
+  whole h e = (omega (arith, told), ap (λ (n : ℕ). take n after) told ∙ e)
+
+  pub printed-bad : (good : Bool) (line : List ℕ) → good ≡ goodTrace s → good ≡ false → 10 ≤ length before → Puts before 0 line after end → line ≡ badTrace → Whole
   unfolding printed
-  printed-bad good e b p =
+  printed-bad good line e b room p f =
       let bad : goodTrace s ≡ false = sym e ∙ b in
-      (omega (arith, p .0, p .1 .0 (omega arith)), λ h. p .1 .1 (omega arith) .1 ∙ sym (rw bad))
+      whole (omega (arith, p .0, p .1 .0 (omega arith))) (p .1 .1 (omega (arith, room, ap length f)) .1 ∙ f ∙ sym (rw bad))
 
-  pub printed-good : (good : Bool) (y : Tally) (out shorter : List ℕ) (granted : ℕ) → Answered s out good y → good ≡ true
-      → (end ≤ length after) × (length shorter ≤ 10921 → granted ≤ 10921 → 110000 ≤ length before → take end after ≡ text shorter granted)
-      → shorter ≡ take (y .records) out → granted ≡ y .granted → Transcript
+  pub printed-good : (good : Bool) (y : Tally) (out shorter : List ℕ) (granted : ℕ) → Answered s out good y → good ≡ true → 110000 ≤ length before
+      → (end ≤ length after) × (length shorter ≤ 10921 → 110000 ≤ length before → take end after ≡ text shorter granted)
+      → shorter ≡ take (y .records) out → granted ≡ y .granted → Whole
   unfolding printed tallyOf
-  printed-good good y out shorter granted a b p e f =
+  printed-good good y out shorter granted a b room p e f =
       let fine : goodTrace s ≡ true = sym (a .0) ∙ b in
       let records : y .records ≡ length (shown s) = ap (λ (x : Tally). x .records) (a .1 .0) in
       let oks : granted ≡ tallyOf (shown s) .granted = f ∙ ap (λ (x : Tally). x .granted) (a .1 .0) in
       let all : shorter ≡ shown s = e ∙ ap (λ (m : ℕ). take m out) records ∙ a .1 .1 .0 in
-      let few = a .1 .1 .1 in (
-        p .0,
-        λ h. p .1 (omega (arith, few, ap length all)) (omega (arith, few, oks, granted-within (shown s))) h
-            ∙ ap (λ (l : List ℕ). text l granted) all
-            ∙ ap (text (shown s)) oks
-            ∙ sym (rw fine),
-      )
+      whole (p .0)
+      (p .1 (omega (arith, a .1 .1 .1, ap length all)) room ∙ ap (λ (l : List ℕ). text l granted) all ∙ ap (text (shown s)) oks ∙ sym (rw fine))

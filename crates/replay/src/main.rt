@@ -1,6 +1,7 @@
 // Replays a trace from standard input: a line for each record, then the counts; or `bad trace`. Only `main` reads and writes.
-ghost use Prim.Native.Nat.{_≤_};
+ghost use Prim.Native.Nat.{ℕ, _≤_};
 ghost use mathlib.Core.Path.{_≡_};
+ghost use mathlib.Core.List.{List};
 ghost use lib.ListN.{length, take, replicate};
 ghost use Rattle.model.specs.Device.{reply, next, world};
 ghost use Rattle.trace.specs.Replay.{goodTrace, requestOf, blank, startedOn, shown};
@@ -21,9 +22,16 @@ pub struct Ran {
     pub answers: [u8; 10921],
 }
 
-// Room for the longest trace, and one byte more by which a longer one is told.
+// What is printed of a trace: the first `size` bytes of `text`.
+pub struct Output {
+    pub size: usize,
+    pub text: [u8; 110000],
+}
+
+// Room for the longest trace, and one byte more by which a longer one is told: what is left unread changes nothing.
 fn input() -> [u8; 65537]
-    ensures { λ r. ⌜ 65537 ≡ length r ⌝ }
+    ensures size { λ r. ⌜ 65537 ≡ length r ⌝ }
+    ensures enough { λ r. ⌜ ((s : List ℕ) → printed (take (length r) s) ≡ printed s) ⌝ }
 {
     [0; 65537]
 }
@@ -144,25 +152,27 @@ fn run(s: &[u8]) -> Ran
     }
 }
 
-// What is printed of a trace, into the front of `out`; the result is its length.
-fn transcript(s: &[u8], out: &mut [u8]) -> usize
-    ensures within { λ r. ⌜ r ≤ length (now (out .exit)) ⌝ }
-    ensures printed { λ r. ⌜ (110000 ≤ length (now (out .entry)) → take r (now (out .exit)) ≡ printed (now (s .entry))) ⌝ }
+// The whole text that is printed of a trace, whatever its bytes. It is made here and not in `main`, which has no contract.
+fn transcript(s: &[u8]) -> Output
+    ensures within { λ r. ⌜ r .size ≤ length (r .text) ⌝ }
+    ensures printed { λ r. ⌜ take (r .size) (r .text) ≡ printed (now (s .entry)) ⌝ }
 {
+    let mut text = room();
     let ran = run(s);
     if !ran.good {
-        return text::put_bytes(out, 0, b"bad trace\n");
+        let size = text::put_bytes(&mut text, 0, b"bad trace\n");
+        return Output { size, text };
     }
     let answers = ran.answers;
     let tally = ran.tally;
     let n = tally.records as usize;
-    text::put_text(&answers[..n], tally.granted, out)
+    let size = text::put_text(&answers[..n], tally.granted, &mut text);
+    Output { size, text }
 }
 
 fn main() {
     let mut bytes = input();
     let n = io::read_full(STDIN_FILENO, &mut bytes);
-    let mut out = room();
-    let end = transcript(&bytes[..n], &mut out);
-    io::write_all(STDOUT_FILENO, &out[..end]);
+    let Output { size, text } = transcript(&bytes[..n]);
+    io::write_all(STDOUT_FILENO, &text[..size]);
 }

@@ -28,10 +28,6 @@ count-within (x ∷ l) = go (isOk x) (count-within l)
     go true h = omega arith
     go false h = omega arith
 
-pub granted-within : (l : List ℕ) → tallyOf l .granted ≤ length l
-unfolding tallyOf
-granted-within l = count-within l
-
 one-more : (n : ℕ) → n < 4294967295 → increment n ≡ n + 1
 one-more n h = rw (lt-ltb n 4294967295 h)
 

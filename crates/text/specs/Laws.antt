@@ -90,17 +90,17 @@ length-lines i (a ∷ l) bytes h =
       length-lines (suc i) l (λ k. bytes (suc k)) (omega arith),
     )
 
--- the most that a trace comes to: 10,921 lines of 10 bytes, and the last of 17
-length-text : (l : List ℕ) (granted : ℕ) → ((k : ℕ) → getD l k 0 < 256) → length l ≤ 10921 → granted ≤ 10921 → length (text l granted) ≤ 109227
+-- the most that a trace comes to: 10,921 lines of 10 bytes, and the last of 22
+length-text : (l : List ℕ) (granted : ℕ) → ((k : ℕ) → getD l k 0 < 256) → granted < 4294967296 → length l ≤ 10921 → length (text l granted) ≤ 109232
 unfolding text
-length-text l granted bytes h j =
+length-text l granted bytes j h =
     let n = length l in
     omega (
       arith,
       length-lines 0 l bytes (omega arith),
       length-append (linesFrom 0 l) (done ++ line n granted),
       length-append done (line n granted),
-      length-line 4 4 n granted (omega arith) (omega arith),
+      length-line 4 9 n granted (omega arith) (omega arith),
     )
 
 -- ---- writing
@@ -187,11 +187,11 @@ module _ (before l : List ℕ) (granted : ℕ) (one two after : List ℕ) (last 
       puts-then before 0 (linesFrom 0 l) (done ++ line (length l) granted) one after last end p
       (puts-then one last done (line (length l) granted) two after counts end q r)
 
-  pub puts-text : ((k : ℕ) → getD l k 0 < 256)
-      → (end ≤ length after) × (length l ≤ 10921 → granted ≤ 10921 → 110000 ≤ length before → take end after ≡ text l granted)
-  puts-text bytes = (
+  pub puts-text : ((k : ℕ) → getD l k 0 < 256) → granted < 4294967296
+      → (end ≤ length after) × (length l ≤ 10921 → 110000 ≤ length before → take end after ≡ text l granted)
+  puts-text bytes j = (
     omega (arith, whole .0, whole .1 .0 (omega arith)),
-    λ h j k. whole .1 .1 (omega (arith, length-text l granted bytes h j)) .1,
+    λ h k. whole .1 .1 (omega (arith, length-text l granted bytes j h)) .1,
   )
 
 -- ---- computed

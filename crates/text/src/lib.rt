@@ -66,7 +66,7 @@ fn put_lines(out: &mut [u8], answers: &[u8]) -> usize
 // All lines of a good trace, whose answers number at most 10,921.
 pub fn put_text(answers: &[u8], granted: u32, out: &mut [u8]) -> usize
     ensures within { λ r. ⌜ r ≤ length (now (out .exit)) ⌝ }
-    ensures lines { λ r. ⌜ (length (now (answers .entry)) ≤ 10921 → granted ≤ 10921 → 110000 ≤ length (now (out .entry)) → take r (now (out .exit)) ≡ text (now (answers .entry)) granted) ⌝ }
+    ensures lines { λ r. ⌜ (length (now (answers .entry)) ≤ 10921 → 110000 ≤ length (now (out .entry)) → take r (now (out .exit)) ≡ text (now (answers .entry)) granted) ⌝ }
 {
     let last = put_lines(out, answers);
     let counts = put_bytes(out, last, b"done ");

@@ -10,11 +10,12 @@ use Rattle.replay.proofs.transcript.Tie as tie
 
 returns : tie.Need-returns
 returns c =
-    let at = c .before .before in let line = at .put-bytes .ensures in
+    let at = c .before in let line = at .put-bytes .ensures in
     let at = at .before .before .before in let bad = not-true _ (at .if1 .taken) in
     let at = at .before .before in let ran = at .run .ensures in
-    let at = at .before .before .before .args in
-    printed-bad (at .s .now) (at .out .now) _ _ _ (ran .0) bad line
+    let at = at .before in let room = at .room in
+    let at = at .before .before .args in
+    printed-bad (at .s .now) (room .result) _ _ _ (omega arith) _ _ (ran .0) bad (omega (arith, room .ensures)) line refl
 
 array-share-prefix-answers : tie.Need-array-share-prefix-answers
 array-share-prefix-answers c =
@@ -28,24 +29,26 @@ slice-aggregate-put-text c =
 
 returns-2 : tie.Need-returns-2
 returns-2 c =
-    let at = c .before .before in let lines = at .put-text .ensures in
+    let at = c .before in let lines = at .put-text .ensures in
     let at = at .before .before .before .before .before .before in let good = not-false _ (at .if1 .left) in
     let at = at .before .before in let ran = at .run in
-    let at = at .before .before .before .args in
-    printed-good (at .s .now) (at .out .now) _ _ _ (ran .result .tally) (ran .result .answers) _ _ (ran .ensures) good lines refl (omega arith)
+    let at = at .before in let room = at .room in
+    let at = at .before .before .args in
+    printed-good (at .s .now) (room .result) _ _ _ (omega arith) _ (ran .result .tally) (ran .result .answers) _ _ (ran .ensures) good (omega (arith, room .ensures)) lines refl (omega arith)
 
 pub transcript-spec : {M : Type 1} → statement M
 transcript-spec =
     tie.close
     (tie.spec
     (λ c κs. search needs)
-    (λ c. search needs)
     (λ c κs. search needs)
     (λ c. search needs)
+    (λ c. search needs)
+    (λ c κs. search needs)
     returns
     (λ c. search needs)
     array-share-prefix-answers
     slice-aggregate-put-text
-    (λ c κs. search needs)
     (λ c. search needs)
+    (λ c κs. search needs)
     returns-2)

@@ -11,8 +11,8 @@ returns c =
     let at = at .before .before .before .before in let word = at .put-bytes .ensures in
     let at = at .before .before .before .before .before in let lines = at .put-lines .ensures in
     let at = at .before .before .before in let bytes = at .shared-slice-known .given in
-    let at = at .before .args in
-    puts-text (at .out .now) (at .answers .now) (at .granted) _ _ _ _ _ _ lines word counts (λ k. omega (arith, bytes k))
+    let start = at .before in let at = start .args in
+    puts-text (at .out .now) (at .answers .now) (at .granted) _ _ _ _ _ _ lines word counts (λ k. omega (arith, bytes k)) (omega (arith, start .fits .granted))
 
 pub put-text-spec : {M : Type 1} → statement M
 put-text-spec =
