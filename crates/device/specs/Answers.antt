@@ -13,10 +13,10 @@ use Rattle.model.specs.declared.Lengths.{Lengths}
 use Rattle.model.specs.declared.Session.{Session}
 use Rattle.model.specs.declared.Table.{Table}
 use Rattle.model.specs.Bytes.{le32, le64}
-use Rattle.model.specs.Answer.{err, nospc, firstFail}
+use Rattle.model.specs.Answer.{err, nospc, Check, firstFail}
 use Rattle.model.specs.Session.{lastNumber, guestAt}
 use Rattle.model.specs.View.{full, liveAt, find, isLive, sessionIn, present}
-use Rattle.model.specs.Control.{opcode, plainCreate, endChecks}
+use Rattle.model.specs.Control.{plainCreate, endChecks}
 use Rattle.model.specs.Data.{lengths, operationChecks, jobChecks, keyChecks}
 use Rattle.model.specs.Device.{bare}
 use Rattle.laws.specs.Chain.{all-hold, fails, goes-on}
@@ -41,15 +41,25 @@ module _ (t : Table) (g : ℕ) (r : Guest) (e : r ≡ guestAt t g) where
 
 -- ---- control requests; a is the answer of steps 1 to 3
 
-module _ (t : Table) (g : ℕ) (r : List ℕ) (room store a : ℕ) (e : a ≡ firstFail (opening t g r room store)) where
+module _ (t : Table) (g : ℕ) (r : List ℕ) (room store a : ℕ) (here : Bool) (hh : here ≡ present g (guestAt t g))
+    (e : a ≡ firstFail (opening (t .config) here r room store)) where
+  abbrev first : List Check
+  first = opening (t .config) (present g (guestAt t g)) r room store
+
+  opened : a ≡ firstFail first
+  opened = rw (← hh) e
+
+  abbrev second : List Check
+  second = form (t .config) r
+
   pub create-stop : (a ≡ 0 → ⊥) → a ≡ firstFail (creation t g r room store)
-  create-stop = stop (opening t g r room store) (form t r ++ granting t g) a e
+  create-stop = stop first (second ++ granting t g) a opened
 
-  pub create-form : (b : ℕ) → a ≡ 0 → b ≡ firstFail (form t r) → (b ≡ 0 → ⊥) → b ≡ firstFail (creation t g r room store)
-  create-form b z f d = go-on (opening t g r room store) (form t r ++ granting t g) a b refl e z (stop (form t r) (granting t g) b f d)
+  pub create-form : (b : ℕ) → a ≡ 0 → b ≡ firstFail (form (t .config) r) → (b ≡ 0 → ⊥) → b ≡ firstFail (creation t g r room store)
+  create-form b z f d = go-on first (second ++ granting t g) a b refl opened z (stop second (granting t g) b f d)
 
-  pub create-grant : (b m : ℕ) → a ≡ 0 → b ≡ firstFail (form t r) → b ≡ 0 → m ≡ firstFail (granting t g) → m ≡ firstFail (creation t g r room store)
-  create-grant b m z f y q = go-on (opening t g r room store) (form t r ++ granting t g) a m refl e z (go-on (form t r) (granting t g) b m refl f y q)
+  pub create-grant : (b m : ℕ) → a ≡ 0 → b ≡ firstFail (form (t .config) r) → b ≡ 0 → m ≡ firstFail (granting t g) → m ≡ firstFail (creation t g r room store)
+  create-grant b m z f y q = go-on first (second ++ granting t g) a m refl opened z (go-on second (granting t g) b m refl f y q)
 
   -- `at` and x are the place and the session that the search gave for number n
   module _ (at n : ℕ) (x : Session) (hn : n ≡ le64 r 16) (hp : at ≡ liveAt t g n) (ha : ltb at 128 ≡ isLive (find (bare t) g n))
@@ -64,10 +74,10 @@ module _ (t : Table) (g : ℕ) (r : List ℕ) (room store a : ℕ) (e : a ≡ fi
     choice m f = (f, (hp ∙ rw hn, ha ∙ rw hn))
 
     pub destroy-stop : (a ≡ 0 → ⊥) → Chosen a
-    destroy-stop d = choice a (stop (opening t g r room store) _ a e d)
+    destroy-stop d = choice a (stop first _ a opened d)
 
     pub destroy-end : (m op : ℕ) → op ≡ le32 r 0 → a ≡ 0 → m ≡ firstFail (endChecks (ltb at 128) x op (length r)) → Chosen m
-    destroy-end m op ho z f = choice m (go-on (opening t g r room store) _ a m refl e z (f ∙ rw (ha, hx, hn, ho)))
+    destroy-end m op ho z f = choice m (go-on first _ a m refl opened z (f ∙ rw (ha, hx, hn, ho)))
 
 -- ---- data requests: the fields that each stage reads
 

@@ -7,6 +7,7 @@ use mathlib.Core.Bool.{true, false, cond}
 use mathlib.Core.List.{List}
 use lib.Dec.{eqb, ltb}
 use lib.ListN.{length}
+use native.Mathlib.Omega.{arith}
 use borrow.Author.Tests.{eq-eqb, ne-eqb, ltb-true, lt-leb, not-true}
 use Rattle.lists.specs.Test.{same, and-true, both-ways}
 use Rattle.model.specs.declared.Guest.{Guest}
@@ -23,8 +24,9 @@ use Rattle.laws.specs.Judge.{Passed, first-passed, holds-at}
 use Rattle.laws.specs.Chain.{chosen, other}
 use Rattle.laws.specs.Effect.{replied, granted-next, refused-next, find-bare}
 use Rattle.laws.specs.Bounds.{asked-small}
-use Rattle.laws.specs.Walk.{Good, free-inside}
+use Rattle.laws.specs.Walk.{Good, free-inside, slot-out}
 use Rattle.keystore.specs.Stored.{stored}
+use Rattle.keystore.specs.StoredLaws.{stored-past}
 use Rattle.table.specs.Narrow.{low, lastly, numberAfter}
 use Rattle.table.specs.NarrowLaws.{low-small}
 use Rattle.device.specs.Stages.{creation, destruction}
@@ -40,9 +42,6 @@ Created t g r w b a u b' w' =
 
 module _ (t : Table) (g : ℕ) (r w b : List ℕ) (a n : ℕ) (q : Guest) (w' : List ℕ) (e : a ≡ firstFail (creation t g r (length w) (length b)))
     (hq : q ≡ guestAt t g) (hn : n ≡ ifGranted a (numberAfter (q .last)) 0) (hw : w' ≡ controlBytes w n a) where
-  pub create-refused : (a ≡ 0 → ⊥) → Created t g r w b a t b w'
-  create-refused d = (e, rw (ne-eqb a ok d) (refl, (refl, hw ∙ ap (λ (m : ℕ). controlBytes w m a) (hn ∙ rw (ne-eqb a ok d) refl))))
-
   module _ (z : a ≡ 0) where
     passed : Passed (creation t g r (length w) (length b))
     passed = first-passed (creation t g r (length w) (length b)) refl (sym e ∙ z)
@@ -60,24 +59,32 @@ module _ (t : Table) (g : ℕ) (r w b : List ℕ) (a n : ℕ) (q : Guest) (w' : 
         let cs = creation t g r (length w) (length b) in
         low-small (asked r) (asked-small (t .config) r (holds-at cs 8 passed) (holds-at cs 10 passed) (holds-at cs 11 passed))
 
-    module _ (x : Session) (hx : x ≡ asked r) (at : ℕ) (ha : at ≡ freeAt t) where
-      table-created : (u : Table) → u ≡ withGuest (withSlot t at (holding g n (low x))) g (lastly q n) → u ≡ tableAfter t g (create (newEntry r))
-      unfolding tableAfter newEntry lastly numbered
-      table-created u hu = hu ∙ rw (hx, kept, ha, next-number, hq)
+    -- and there is a slot for it
+    inside : Good t → ltb (freeAt t) 128 ≡ true
+    inside good = free-inside t good g (not-true (full t g) (holds-at (creation t g r (length w) (length b)) 14 passed))
 
-      store-created : Good t → (p : ℕ) (key b' : List ℕ) → p ≡ createPart (x .service) → key ≡ part r (16 + p) (x .keylen)
-          → b' ≡ stored b at (areaOf (x .service) key) → b' ≡ storeAfter t b g (create (newEntry r))
-      unfolding storeAfter newEntry stored
-      store-created good p key b' hp hk hb =
-          let cs = creation t g r (length w) (length b) in
-          let inside = free-inside t good g (not-true (full t g) (holds-at cs 14 passed)) in
-          hb ∙ rw (passed .0, ha, inside, hk, hp, hx)
+  -- x is what is asked for, `at` the slot that it gets and p the size of its fixed part; 128 is no slot, and nothing is stored there
+  module _ (good : Good t) (x : Session) (hx : x ≡ asked r) (l at : ℕ) (hl : l ≡ freeAt t) (ha : at ≡ ifGranted a l 128) (p : ℕ) (hp : p ≡ createPart (x .service))
+      (key : List ℕ) (hk : key ≡ part r (16 + p) (x .keylen)) (b' : List ℕ) (hb : b' ≡ stored b at (areaOf (x .service) key)) (u : Table)
+      (hu : u ≡ cond (ltb at 128) (withGuest (withSlot t at (holding g n (low x))) g (lastly q n)) t) where
+    create-refused : (a ≡ 0 → ⊥) → Created t g r w b a u b' w'
+    create-refused d =
+        let f = ne-eqb a ok d in
+        let none : at ≡ 128 = ha ∙ rw f refl in
+        (e, rw f (hu ∙ rw none refl, (hb ∙ rw none (sym (stored-past b 128 _ (omega arith))), hw ∙ ap (λ (m : ℕ). controlBytes w m a) (hn ∙ rw f refl))))
 
-      pub create-done : Good t → (p : ℕ) (key b' : List ℕ) → p ≡ createPart (x .service) → key ≡ part r (16 + p) (x .keylen)
-          → b' ≡ stored b at (areaOf (x .service) key) → (u : Table) → u ≡ withGuest (withSlot t at (holding g n (low x))) g (lastly q n)
-          → Created t g r w b a u b' w'
-      create-done good p key b' hp hk hb u hu =
-          (e, rw (eq-eqb a ok z) (table-created u hu, (store-created good p key b' hp hk hb, hw ∙ ap (λ (m : ℕ). controlBytes w m a) next-number)))
+    create-done : a ≡ 0 → Created t g r w b a u b' w'
+    unfolding tableAfter storeAfter newEntry stored lastly numbered
+    create-done z =
+        let f = eq-eqb a ok z in
+        let free : at ≡ freeAt t = ha ∙ rw f hl in
+        let i = inside z good in
+        let table : u ≡ tableAfter t g (create (newEntry r)) = hu ∙ rw (free, i, hx, kept z, next-number z, hq) in
+        let store : b' ≡ storeAfter t b g (create (newEntry r)) = hb ∙ rw (passed z .0, free, i, hk, hp, hx) in
+        (e, rw f (table, (store, hw ∙ ap (λ (m : ℕ). controlBytes w m a) (next-number z))))
+
+    pub created : Created t g r w b a u b' w'
+    created = ⊎-elim create-done create-refused (same a 0)
 
 -- ---- destroy
 
@@ -88,26 +95,29 @@ Destroyed t g r w b a u b' w' =
     × ((b' ≡ ifGranted a (storeAfter t b g (destroy (le64 r 16))) b) × (w' ≡ controlBytes w 0 a)))
 
 module _ (t : Table) (g : ℕ) (r w b : List ℕ) (a : ℕ) (w' : List ℕ) (e : a ≡ firstFail (destruction t g r (length w) (length b))) (hw : w' ≡ controlBytes w 0 a) where
-  pub destroy-refused : (a ≡ 0 → ⊥) → Destroyed t g r w b a t b w'
-  destroy-refused d = (e, rw (ne-eqb a ok d) (refl, (refl, hw)))
+  -- `at` is the session's slot; 128 is no slot, and nothing is freed there
+  module _ (good : Good t) (l at : ℕ) (hl : l ≡ liveAt t g (le64 r 16)) (alive : ltb l 128 ≡ isLive (find (bare t) g (le64 r 16))) (ha : at ≡ ifGranted a l 128)
+      (b' : List ℕ) (hb : b' ≡ stored b at zeros) (u : Table) (hu : u ≡ withSlot t at free) where
+    destroy-refused : (a ≡ 0 → ⊥) → Destroyed t g r w b a u b' w'
+    destroy-refused d =
+        let f = ne-eqb a ok d in
+        let none : at ≡ 128 = ha ∙ rw f refl in
+        (e, rw f (hu ∙ rw none (sym (slot-out t good 128 free (omega arith))), (hb ∙ rw none (sym (stored-past b 128 zeros (omega arith))), hw)))
 
-  module _ (at : ℕ) (ha : at ≡ liveAt t g (le64 r 16)) where
-    table-destroyed : (u : Table) → u ≡ withSlot t at free → u ≡ tableAfter t g (destroy (le64 r 16))
-    unfolding tableAfter
-    table-destroyed u hu = hu ∙ rw ha
-
-    store-destroyed : a ≡ 0 → ltb at 128 ≡ isLive (find (bare t) g (le64 r 16)) → (b' : List ℕ) → b' ≡ stored b at zeros
-        → b' ≡ storeAfter t b g (destroy (le64 r 16))
-    unfolding storeAfter stored
-    store-destroyed z hl b' hb =
+    destroy-done : a ≡ 0 → Destroyed t g r w b a u b' w'
+    unfolding tableAfter storeAfter stored
+    destroy-done z =
+        let f = eq-eqb a ok z in
         let cs = destruction t g r (length w) (length b) in
         let p = first-passed cs refl (sym e ∙ z) in
-        let l = and-true (isLive (find (bare t) g (le64 r 16))) _ (holds-at cs 8 p) .0 in
-        hb ∙ rw (p .0, hl ∙ l, ha)
+        let here : at ≡ l = ha ∙ rw f refl in
+        let live = and-true (isLive (find (bare t) g (le64 r 16))) _ (holds-at cs 8 p) .0 in
+        let table : u ≡ tableAfter t g (destroy (le64 r 16)) = hu ∙ rw (here, hl) in
+        let store : b' ≡ storeAfter t b g (destroy (le64 r 16)) = hb ∙ rw (here, p .0, alive ∙ live, hl) in
+        (e, rw f (table, (store, hw)))
 
-    pub destroy-done : a ≡ 0 → ltb at 128 ≡ isLive (find (bare t) g (le64 r 16)) → (b' : List ℕ) → b' ≡ stored b at zeros
-        → (u : Table) → u ≡ withSlot t at free → Destroyed t g r w b a u b' w'
-    destroy-done z hl b' hb u hu = (e, rw (eq-eqb a ok z) (table-destroyed u hu, (store-destroyed z hl b' hb, hw)))
+    pub destroyed : Destroyed t g r w b a u b' w'
+    destroyed = ⊎-elim destroy-done destroy-refused (same a 0)
 
 -- ---- control: what was done by the answer a, where the act was c and a grant's number is id
 

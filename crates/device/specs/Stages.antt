@@ -18,15 +18,15 @@ use Rattle.model.specs.Device.{bare}
 abbrev pub settingOf : Table → ℕ → Setting
 settingOf t store = record { config = t .config; store = store }
 
--- a create's, and its three stages
+-- a create's, and its three stages; the first two need the configuration, and whether the guest is here
 abbrev pub creation : Table → ℕ → List ℕ → ℕ → ℕ → List Check
 creation t g r room store = createChecks (settingOf t store) g (view (bare t) g) (full t g) r room
 
-abbrev pub opening : Table → ℕ → List ℕ → ℕ → ℕ → List Check
-opening t g r room store = placeChecks store (present g (guestAt t g)) room ++ headChecks (t .config) (opcode r) (length r) room
+abbrev pub opening : Config → Bool → List ℕ → ℕ → ℕ → List Check
+opening k here r room store = placeChecks store here room ++ headChecks k (opcode r) (length r) room
 
-abbrev pub form : Table → List ℕ → List Check
-form t r = sessionChecks (t .config) (plainCreate r) (le32 r 4) (asked r) (length r)
+abbrev pub form : Config → List ℕ → List Check
+form k r = sessionChecks k (plainCreate r) (le32 r 4) (asked r) (length r)
 
 abbrev pub granting : Table → ℕ → List Check
 granting t g = (numbersLeft (view (bare t) g), err) ∷ (not (full t g), nospc) ∷ []

@@ -84,27 +84,21 @@ fn is_here(t: model::Table, guest: u8) -> bool
     table::is_present(guest, table::guest_at(t, guest))
 }
 
-// Steps 1 to 3 of a control request.
-fn opening_answer(t: model::Table, guest: u8, readable: &[u8], room: usize, store: usize) -> u8
-    ensures { λ a. ⌜ a ≡ firstFail (opening t guest (now (readable .entry)) room store) ⌝ }
+// Steps 1 to 3 of a control request. It takes what it needs of the table, and not the table, which would be copied.
+fn opening_answer(k: model::Config, here: bool, readable: &[u8], room: usize, store: usize) -> u8
+    ensures { λ a. ⌜ a ≡ firstFail (opening k here (now (readable .entry)) room store) ⌝ }
 {
     let op = wire::le32(readable, 0);
-    request::control_answer(t.config, store, is_here(t, guest), op, readable.len(), room)
+    request::control_answer(k, store, here, op, readable.len(), room)
 }
 
 // Step 4 up to the session number.
-fn form_answer(t: model::Table, readable: &[u8]) -> u8
-    ensures { λ a. ⌜ a ≡ firstFail (form t (now (readable .entry))) ⌝ }
+fn form_answer(k: model::Config, readable: &[u8]) -> u8
+    ensures { λ a. ⌜ a ≡ firstFail (form k (now (readable .entry))) ⌝ }
 {
     let plain = request::is_plain(readable);
     let head = wire::le32(readable, 4);
-    request::session_answer(
-        t.config,
-        plain,
-        head,
-        request::asked(readable),
-        readable.len(),
-    )
+    request::session_answer(k, plain, head, request::asked(readable), readable.len())
 }
 
 // The session number and the room for a create.
@@ -125,11 +119,12 @@ fn grant_answer(t: model::Table, guest: u8) -> u8
 fn create_answer(t: model::Table, guest: u8, readable: &[u8], room: usize, store: usize) -> u8
     ensures { λ a. ⌜ a ≡ firstFail (creation t guest (now (readable .entry)) room store) ⌝ }
 {
-    let first = opening_answer(t, guest, readable, room, store);
+    let k = t.config;
+    let first = opening_answer(k, is_here(t, guest), readable, room, store);
     if first != model::OK {
         return first;
     }
-    let second = form_answer(t, readable);
+    let second = form_answer(k, readable);
     if second != model::OK {
         return second;
     }
@@ -140,10 +135,20 @@ fn create_answer(t: model::Table, guest: u8, readable: &[u8], room: usize, store
 fn number_for(answer: u8, r: model::Guest) -> u64
     ensures { λ n. ⌜ n ≡ ifGranted answer (numberAfter (r .last)) 0 ⌝ }
 {
-    if answer == model::OK {
-        return table::next_number(r);
+    if answer != model::OK {
+        return 0;
     }
-    0
+    table::next_number(r)
+}
+
+// The slot that a granted request changes; 128 on refusal, which is no slot, so that nothing changes and one table is built for both.
+fn place_for(answer: u8, at: usize) -> usize
+    ensures { λ r. ⌜ r ≡ ifGranted answer at 128 ⌝ }
+{
+    if answer != model::OK {
+        return 128;
+    }
+    at
 }
 
 // A new session in the lowest free slot, and its whole key area.
@@ -163,11 +168,8 @@ fn create(
     let r = table::guest_at(t, guest);
     let number = number_for(answer, r);
     wire::put_control(writable, number, answer);
-    if answer != model::OK {
-        return Reply { answer, table: t };
-    }
     let x = request::asked(readable);
-    let at = table::first_free(t);
+    let at = place_for(answer, table::first_free(t));
     let start = 16 + request::create_part(x.service);
     let key = wire::part(readable, start, x.keylen as usize);
     keystore::put_key(store, at, x.service, key);
@@ -184,7 +186,7 @@ fn destroy_choice(t: model::Table, guest: u8, readable: &[u8], room: usize, stor
     ensures alive { λ r. ⌜ ltb (r .found .at) 128 ≡ isLive (find (bare t) guest (le64 (now (readable .entry)) 16)) ⌝ }
 {
     let found = table::lookup(t, guest, wire::le64(readable, 16));
-    let first = opening_answer(t, guest, readable, room, store);
+    let first = opening_answer(t.config, is_here(t, guest), readable, room, store);
     if first != model::OK {
         return Choice {
             answer: first,
@@ -212,14 +214,12 @@ fn destroy(
     let choice = destroy_choice(t, guest, readable, writable.len(), store.len());
     let answer = choice.answer;
     wire::put_control(writable, 0, answer);
-    if answer != model::OK {
-        return Reply { answer, table: t };
-    }
     let found = choice.found;
-    keystore::clear_area(store, found.at);
+    let at = place_for(answer, found.at);
+    keystore::clear_area(store, at);
     Reply {
         answer,
-        table: table::without_slot(t, found.at),
+        table: table::without_slot(t, at),
     }
 }
 

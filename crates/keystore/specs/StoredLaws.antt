@@ -5,19 +5,18 @@ use mathlib.Core.Path.{_≡_, refl, sym, ap, _∙_}
 use mathlib.Core.Bool.{Bool, true, false, cond}
 use mathlib.Core.Option.{Option, none, some}
 use mathlib.Core.List.{List, [], _∷_, _++_}
-use native.Mathlib.Nat.{not-suc-le-zero, le-of-suc-le-suc}
 use native.Mathlib.Omega.{arith}
 use lib.Dec.{eqb, ltb}
-use lib.ListN.{length, getD, take, drop, replicate}
-use lib.Seq.{take-all}
+use lib.ListN.{length, getD, take, drop, replicate, take-append-drop}
+use lib.Seq.{take-all, take-nil, drop-nil}
 use borrow.Author.Tests.{eq-eqb, ne-eqb, lt-ltb, le-ltb}
-use Rattle.lists.specs.Test.{both-ways, false-true}
-use Rattle.lists.specs.Splice.{splice, splice-fits, splice-then}
+use Rattle.lists.specs.Test.{both-ways, false-true, and-false}
+use Rattle.lists.specs.Splice.{splice, splice-fits, splice-then, filled}
 use Rattle.model.specs.declared.Session.{Session}
 use Rattle.model.specs.declared.Table.{Table}
 use Rattle.model.specs.Bytes.{part, padded}
 use Rattle.model.specs.Session.{World, Entry, free, slotOf, placeOf, marked, slotsOf, zeros, keyArea, keyStart, keyLen}
-use Rattle.model.specs.View.{owned, find, liveAt, isLive, sessionIn}
+use Rattle.model.specs.View.{sized, owned, find, liveAt, isLive, sessionIn}
 use Rattle.model.specs.Act.{withArea, wipe}
 use Rattle.model.specs.Data.{keyBytes}
 use Rattle.model.specs.Device.{world, bare}
@@ -26,17 +25,61 @@ use Rattle.laws.specs.Slots.{place-at, slots-length}
 use Rattle.laws.specs.Effect.{find-bare}
 use Rattle.laws.specs.Found.{alive-accepted, key-found}
 use Rattle.laws.specs.Bounds.{key-fits}
-use Rattle.keystore.specs.Stored.{stored, cleared, keyAt}
+use Rattle.keystore.specs.Stored.{laid, stored, cleared, keyAt}
 
 -- ---- keys with zeros behind them
 
-pub padded-at : (n : ℕ) (k : List ℕ) (i : ℕ) → i < n → getD k i 0 ≡ getD (padded n k) i 0
+-- ---- the key is copied to the front, and the rest then zeroed
+
+pub length-laid : (k l : List ℕ) → length (laid k l) ≡ length l
+unfolding laid
+length-laid [] l = refl
+length-laid (x ∷ k) [] = refl
+length-laid (x ∷ k) (y ∷ l) = ap suc (length-laid k l)
+
+-- a loop that stores the key's bytes one by one: the next one, and all
+pub laid-at : (k l : List ℕ) (i : ℕ) → i < length k → i < length l → getD k i 0 ≡ getD (laid k l) i 0
+unfolding laid
+laid-at [] l i h j = absurd (omega arith)
+laid-at (x ∷ k) [] i h j = absurd (omega arith)
+laid-at (x ∷ k) (y ∷ l) zero h j = refl
+laid-at (x ∷ k) (y ∷ l) (suc i) h j = laid-at k l i (omega arith) (omega arith)
+
+pub laid-all : (k l : List ℕ) (i : ℕ) → (i < length l → i < length k → ⊥) → filled i (laid k l) l ≡ laid k l
+unfolding laid filled
+laid-all [] l i h = take-append-drop i l
+laid-all (x ∷ k) [] i h = rw (take-nil i, drop-nil i)
+laid-all (x ∷ k) (y ∷ l) zero h = absurd (h (omega arith) (omega arith))
+laid-all (x ∷ k) (y ∷ l) (suc i) h = ap (λ (m : List ℕ). x ∷ m) (laid-all k l i (λ a b. h (omega arith) (omega arith)))
+
+-- a loop that zeroes from `at` on: what is kept, and what is not
+pub kept-front : (l : List ℕ) (at : ℕ) → l ≡ filled at (padded (length l) (take at l)) l
+unfolding padded filled
+kept-front l at = sym (ap (λ (m : List ℕ). m ++ drop at l) (go l at) ∙ take-append-drop at l)
+  where
+    go : (m : List ℕ) (n : ℕ) → take n (padded (length m) (take n m)) ≡ take n m
+    go [] n = refl
+    go (x ∷ m) zero = refl
+    go (x ∷ m) (suc n) = ap (λ (r : List ℕ). x ∷ r) (go m n)
+
+pub zero-behind : (n : ℕ) (l : List ℕ) (at i : ℕ) → at ≤ i → 0 ≡ getD (padded n (take at l)) i 0
 unfolding padded
-padded-at zero k i h = absurd (not-suc-le-zero h)
-padded-at (suc n) [] zero h = refl
-padded-at (suc n) (x ∷ k) zero h = refl
-padded-at (suc n) [] (suc i) h = padded-at n [] i (le-of-suc-le-suc h)
-padded-at (suc n) (x ∷ k) (suc i) h = padded-at n k i (le-of-suc-le-suc h)
+zero-behind zero l at i h = refl
+zero-behind (suc n) l zero zero h = refl
+zero-behind (suc n) l zero (suc i) h = zero-behind n [] zero i (omega arith)
+zero-behind (suc n) l (suc at) zero h = absurd (omega arith)
+zero-behind (suc n) [] (suc at) (suc i) h = zero-behind n [] zero i (omega arith)
+zero-behind (suc n) (x ∷ l) (suc at) (suc i) h = zero-behind n l at i (omega arith)
+
+-- one after the other
+pub laid-cleared : (k l l₁ l₂ : List ℕ) → l₁ ≡ laid k l → l₂ ≡ padded (length l₁) (take (length k) l₁) → l₂ ≡ padded (length l) k
+unfolding laid padded
+laid-cleared k l l₁ l₂ e f = f ∙ rw (e, length-laid k l) (go k l)
+  where
+    go : (k l : List ℕ) → padded (length l) (take (length k) (laid k l)) ≡ padded (length l) k
+    go [] l = refl
+    go (x ∷ k) [] = refl
+    go (x ∷ k) (y ∷ l) = ap (λ (m : List ℕ). x ∷ m) (go k l)
 
 pub padded-empty : (n : ℕ) → padded n [] ≡ replicate n 0
 unfolding padded
@@ -54,9 +97,9 @@ module _ (b : List ℕ) (i : ℕ) (a : List ℕ) where
   unfolding stored
   stored-unsized h = rw (ne-eqb _ _ h)
 
-  pub stored-past : length b ≡ 16384 → 128 ≤ i → b ≡ stored b i a
+  pub stored-past : 128 ≤ i → b ≡ stored b i a
   unfolding stored
-  stored-past h k = rw (eq-eqb _ _ h, le-ltb _ _ k)
+  stored-past h = rw (le-ltb _ _ h, and-false (sized (length b)))
 
   pub stored-in : length b ≡ 16384 → i < 128 → stored b i a ≡ withArea b i a
   unfolding stored

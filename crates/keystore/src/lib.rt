@@ -4,23 +4,42 @@ ghost use mathlib.Core.Path.{_≡_};
 ghost use mathlib.Core.Bool.{cond};
 ghost use mathlib.Core.List.{List};
 ghost use Prim.Native.Nat.{ℕ};
-ghost use lib.ListN.{length, replicate};
+ghost use lib.ListN.{length, take, replicate};
 ghost use Rattle.lists.specs.Splice.{splice};
 ghost use Rattle.model.specs.Bytes.{padded, part};
 ghost use Rattle.model.specs.Session.{placeOf, slotsOf, zeros, keyArea, areaOf, keyStart, keyLen};
 ghost use Rattle.model.specs.View.{owned};
 ghost use Rattle.model.specs.Act.{wipe};
-ghost use Rattle.keystore.specs.Stored.{stored, cleared, keyAt};
+ghost use Rattle.keystore.specs.Stored.{laid, stored, cleared, keyAt};
 
-// Fills a slice with a key and zeros behind it.
+// Lays a key over the front of a slice, as much of it as there is room for.
+fn copy_front(out: &mut [u8], key: &[u8])
+    ensures { λ _. ⌜ now (out .exit) ≡ laid (now (key .entry)) (now (out .entry)) ⌝ }
+{
+    let mut i: usize = 0;
+    while (i < out.len()) & (i < key.len()) {
+        out[i] = key[i];
+        i += 1;
+    }
+}
+
+// Zeroes a slice from `at` on.
+fn clear_from(out: &mut [u8], at: usize)
+    ensures { λ _. ⌜ now (out .exit) ≡ padded (length (now (out .entry))) (take at (now (out .entry))) ⌝ }
+{
+    let mut i = at;
+    while i < out.len() {
+        out[i] = 0;
+        i += 1;
+    }
+}
+
+// Fills a slice with a key and zeros behind it. Two loops, so that neither asks at each byte where the key ends.
 fn fill(out: &mut [u8], key: &[u8])
     ensures { λ _. ⌜ now (out .exit) ≡ padded (length (now (out .entry))) (now (key .entry)) ⌝ }
 {
-    let mut i: usize = 0;
-    while i < out.len() {
-        out[i] = wire::byte(key, i);
-        i += 1;
-    }
+    copy_front(out, key);
+    clear_from(out, key.len());
 }
 
 // Fills n bytes from `at` with a key and zeros behind it, where they lie in the store.

@@ -1,6 +1,7 @@
 // The held slots as the bits of two words: whether a slot is held, the first that is free, how many are held, and the words with one marked anew.
 ghost use mathlib.Core.Path.{_≡_};
 ghost use mathlib.Core.Bool.{false, not};
+ghost use Prim.Native.Nat.{ℕ, suc};
 ghost use lib.ListN.{getD, set};
 ghost use Rattle.lists.specs.Seek.{count, index};
 ghost use Rattle.model.specs.Session.{bitsOf, wordOf, marksOf, occupiedBy, marked};
@@ -44,6 +45,16 @@ pub fn is_held(o: model::Occupied, slot: usize) -> bool
         return has_bit(o.low, slot);
     }
     has_bit(o.high, slot - 64)
+}
+
+// The words with each mark moved down by one slot: a search that goes on from slot to slot asks for slot 0 alone.
+pub fn moved_down(o: model::Occupied) -> model::Occupied
+    ensures { λ r. ⌜ ((i : ℕ) → marked r i ≡ marked o (suc i)) ⌝ }
+{
+    model::Occupied {
+        low: o.low / 2 + (o.high % 2) * 9223372036854775808,
+        high: o.high / 2,
+    }
 }
 
 // The words with the slot's mark set or cleared.

@@ -1,15 +1,16 @@
 // The session table by value: whose slot is whose, the live session of a number, room for one more, and the tables that calls leave.
 ghost use mathlib.Core.Path.{_≡_};
-ghost use mathlib.Core.Bool.{true, _&&_, not};
+ghost use mathlib.Core.Bool.{not, cond};
 ghost use Prim.Native.Nat.{ℕ, _≤_, _<_, _-_};
-ghost use lib.Dec.{eqb, ltb};
+ghost use lib.Dec.{ltb};
 ghost use lib.ListN.{getD};
 ghost use Rattle.lists.specs.Sum.{sumTo, except};
 ghost use Rattle.model.specs.Session.{free, holding, slotOf, sessionOf, marked, placeOf, newGuest, guestAt};
-ghost use Rattle.model.specs.View.{owned, given, freeAt, liveAt, find, isLive, sessionIn, holds, full, present};
+ghost use Rattle.model.specs.View.{owned, freeAt, liveAt, find, isLive, sessionIn, holds, full, present};
 ghost use Rattle.model.specs.Act.{attach, withSlot, without, withGuest, restarted, tableAfter};
 ghost use Rattle.model.specs.Setup.{freshTable};
 ghost use Rattle.model.specs.Device.{bare};
+ghost use Rattle.table.specs.Search.{wasGiven, claimed};
 ghost use Rattle.table.specs.Narrow.{low, lastly, numberAfter, lacks};
 
 // The place of a live session, 128 where there is none, and the session, all 0 where there is none.
@@ -115,32 +116,42 @@ fn session_of(c: model::Slot) -> model::Session
     }
 }
 
-// The number was given to the guest with record r, and the slot's session passes step 4.
-fn is_given(k: model::Config, r: model::Guest, number: u64, c: model::Slot) -> bool
-    ensures { λ b. ⌜ b ≡ given k r number (placeOf true c) ⌝ }
+// What a search that finds no live session gives back.
+fn nothing() -> Found
+    ensures at { λ x. ⌜ x .at ≡ 128 ⌝ }
+    ensures session { λ x. ⌜ x .session ≡ sessionOf (slotOf free) ⌝ }
 {
-    r.attached & (0 < number) & (number <= r.last) & rules::is_accepted(k, session_of(c))
+    Found {
+        at: 128,
+        session: session_of(free_slot()),
+    }
 }
 
-// Slot i matches the guest's session number. Its mark and the rules are looked at only where owner and number fit.
+// The number was given to the guest with record r since its attach.
+fn was_given(r: model::Guest, number: u64) -> bool
+    ensures { λ b. ⌜ b ≡ wasGiven r number ⌝ }
+{
+    r.attached & (0 < number) & (number <= r.last)
+}
+
+// Slot i holds session `number` of the guest, and keeps the rules. Its mark and the rules are looked at only where owner and number fit.
 fn is_live(
     k: model::Config,
-    r: model::Guest,
     guest: u8,
     number: u64,
     o: model::Occupied,
     i: usize,
     c: model::Slot,
 ) -> bool
-    ensures { λ b. ⌜ b ≡ (owned guest (placeOf (marked o i) c) && eqb (c .number) number && given k r number (placeOf (marked o i) c)) ⌝ }
+    ensures { λ b. ⌜ b ≡ claimed k guest number (placeOf (marked o i) c) ⌝ }
 {
     if (c.owner == guest) & (c.number == number) {
-        return occupancy::is_held(o, i) & is_given(k, r, number, c);
+        return occupancy::is_held(o, i) & rules::is_accepted(k, session_of(c));
     }
     false
 }
 
-// The live session of a number. The one function that searches the slots for a request.
+// The live session of a number. The one function that searches the slots for a request; a number that was never given needs no search.
 pub fn lookup(t: model::Table, guest: u8, number: u64) -> Found
     ensures at { λ r. ⌜ r .at ≡ liveAt t guest number ⌝ }
     ensures alive { λ r. ⌜ ltb (r .at) 128 ≡ isLive (find (bare t) guest number) ⌝ }
@@ -148,11 +159,13 @@ pub fn lookup(t: model::Table, guest: u8, number: u64) -> Found
 {
     let k = t.config;
     let o = t.occupied;
-    let r = guest_at(t, guest);
+    if !was_given(guest_at(t, guest), number) {
+        return nothing();
+    }
     let mut i: usize = 0;
     while i < 128 {
         let c = t.slots[i];
-        if is_live(k, r, guest, number, o, i, c) {
+        if is_live(k, guest, number, o, i, c) {
             return Found {
                 at: i,
                 session: session_of(c),
@@ -160,25 +173,23 @@ pub fn lookup(t: model::Table, guest: u8, number: u64) -> Found
         }
         i += 1;
     }
-    Found {
-        at: 128,
-        session: session_of(free_slot()),
-    }
+    nothing()
 }
 
 // How many slots each of the eight guests holds, in one pass over the slots.
 fn holdings(t: model::Table) -> [u8; 8]
     ensures { λ r. ⌜ ((g : ℕ) → g < 8 → getD r g 0 ≡ holds t g) ⌝ }
 {
-    let o = t.occupied;
+    let mut rest = t.occupied;
     let mut n: [u8; 8] = [0; 8];
     let mut i: usize = 0;
     while i < 128 {
         let c = t.slots[i];
-        if occupancy::is_held(o, i) & (c.owner < 8) {
+        if occupancy::is_held(rest, 0) & (c.owner < 8) {
             let held = n[c.owner as usize];
             n[c.owner as usize] = held + 1;
         }
+        rest = occupancy::moved_down(rest);
         i += 1;
     }
     n
@@ -309,7 +320,7 @@ fn with_last(r: model::Guest, number: u64) -> model::Guest
     next
 }
 
-// The table with a new session of the guest, whose record is r, in slot `at`.
+// The table with a new session of the guest, whose record is r, in slot `at`; the table itself where there is no such slot.
 pub fn granted(
     t: model::Table,
     guest: u8,
@@ -318,13 +329,17 @@ pub fn granted(
     number: u64,
     x: model::Session,
 ) -> model::Table
-    ensures { λ u. ⌜ u ≡ withGuest (withSlot t at (holding guest number (low x))) guest (lastly r number) ⌝ }
+    ensures { λ u. ⌜ u ≡ cond (ltb at 128) (withGuest (withSlot t at (holding guest number (low x))) guest (lastly r number)) t ⌝ }
 {
-    with_guest(
-        with_slot(t, at, true, slot_of(guest, number, x)),
-        guest,
-        with_last(r, number),
-    )
+    let mut next = t;
+    if at < 128 {
+        next.occupied = occupancy::with_mark(t.occupied, at, true);
+        next.slots[at] = slot_of(guest, number, x);
+        if guest < 8 {
+            next.guests[guest as usize] = with_last(r, number);
+        }
+    }
+    next
 }
 
 // The table with every slot of the guest freed. A store only where a slot changes.

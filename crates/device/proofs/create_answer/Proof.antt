@@ -9,6 +9,7 @@ create-answer-spec =
     tie.close
     (tie.spec
     (λ c κs. search needs)
+    (λ c κs. search needs)
     (λ c. search create-stop)
     (λ c κs. search needs)
     (λ c. search create-form)

@@ -7,10 +7,4 @@ returns : tie.Need-returns
 returns c = cc
 
 pub opening-answer-spec : {M : Type 1} → statement M
-opening-answer-spec =
-    tie.close
-    (tie.spec
-    (λ c κs. search needs)
-    (λ c κs. search needs)
-    (λ c κs. search needs)
-    returns)
+opening-answer-spec = tie.close (tie.spec (λ c κs. search needs) (λ c κs. search needs) returns)

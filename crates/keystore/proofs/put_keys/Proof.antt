@@ -9,7 +9,7 @@ returns : tie.Need-returns
 returns c = stored-unsized _ _ _ (c .if1 .taken)
 
 returns-2 : tie.Need-returns-2
-returns-2 c = stored-past _ _ _ (omega arith) (c .if2 .taken)
+returns-2 c = stored-past _ _ _ (c .if2 .taken)
 
 returns-3 : tie.Need-returns-3
 returns-3 c = search (put-halves, arith)
