@@ -59,6 +59,12 @@ pub struct Reply {
     pub table: Table,
 }
 
+#[repr(C)]
+pub struct Span {
+    pub start: usize,
+    pub size: usize,
+}
+
 #[link(name = "host", kind = "static")]
 extern "C" {
     pub fn vcrypto_set_up(
@@ -81,6 +87,7 @@ extern "C" {
         store_len: usize,
     ) -> Reply;
     pub fn vcrypto_admit(table: Table, guest: u8, readable: *const u8, readable_len: usize, writable: *mut u8, writable_len: usize) -> yard::Admission;
+    pub fn vcrypto_key(table: Table, guest: u8, number: u64, store: *const u8, store_len: usize) -> Span;
     pub fn vcrypto_finish(table: Table, guest: u8, opcode: u32, verdict: u8, writable: *mut u8, writable_len: usize) -> u8;
 }
 

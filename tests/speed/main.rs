@@ -1,11 +1,12 @@
-// Times data admission and creates through libhost.a against the yardstick: the same prepared requests, over tables with live sessions. Of the data
-// requests half are refused, and each accepted job is finished at once and timed with it; the creates are all granted. `run` builds several binaries
-// of this and says how.
+// Data admission and control through libhost.a against the yardstick: the same prepared requests, over tables with live sessions. Of the data
+// requests half are refused, and each accepted job is finished at once and measured with it; the creates are all granted. `run` builds several
+// binaries of this and says how. Without a word the two sides are compared; `time MILLIONS` prints times, and `count FORM LIST` makes one pass of
+// one form, for whoever counts its instructions.
 mod library;
 mod make;
 
-use library::{vcrypto_admit, vcrypto_control, vcrypto_finish, yard_table, Table};
-use make::{creates, data, destroys, get, live_table, prepare, Random, Request};
+use library::{vcrypto_admit, vcrypto_attach, vcrypto_control, vcrypto_finish, vcrypto_key, yard_table, Table};
+use make::{creates, data, destroys, ends, get, live_table, prepare, Random, Request};
 use std::arch::global_asm;
 use std::env::args;
 use std::hint::black_box;
@@ -15,22 +16,20 @@ use yardstick as yard;
 // Bytes that stand in front of all code that is timed, so that binaries differ in where it lies.
 global_asm!(concat!(".pushsection .text.pad,\"axR\",@progbits\n.skip ", env!("PAD"), "\n.popsection"));
 
-// ---- the forms that are timed: each goes over all requests `passes` times and sums up what it was told
+// ---- the forms that are measured: each makes one pass over its requests and sums up what it was told
 
 macro_rules! form {
     ($name:ident, $table:ty, $admit:path, $finish:path, $($by:tt)*) => {
         #[inline(never)]
         #[no_mangle]
-        fn $name(t: $table, requests: &mut [Request], passes: usize) -> u64 {
+        fn $name(t: $table, requests: &mut [Request]) -> u64 {
             let mut sum = 0;
-            for _ in 0..passes {
-                for q in requests.iter_mut() {
-                    let (w, room) = (q.writable.as_mut_ptr(), q.writable.len());
-                    let a = unsafe { $admit($($by)* t, q.guest, q.readable.as_ptr(), q.readable.len(), w, room) };
-                    sum += u64::from(a.answer);
-                    if a.answer == 0 {
-                        sum += a.number + u64::from(unsafe { $finish($($by)* t, a.guest, a.opcode, q.verdict, w, room) });
-                    }
+            for q in requests.iter_mut() {
+                let (w, room) = (q.writable.as_mut_ptr(), q.writable.len());
+                let a = unsafe { $admit($($by)* t, q.guest, q.readable.as_ptr(), q.readable.len(), w, room) };
+                sum += u64::from(a.answer);
+                if a.answer == 0 {
+                    sum += a.number + u64::from(unsafe { $finish($($by)* t, a.guest, a.opcode, q.verdict, w, room) });
                 }
             }
             sum
@@ -42,26 +41,46 @@ form!(form_library, &Table, vcrypto_admit, vcrypto_finish, *);
 form!(form_yardstick, &yard::Table, yard::yard_admit, yard::yard_finish, *);
 form!(form_reference, &yard::Table, yard::yard_admit_ref, yard::yard_finish_ref,);
 
-macro_rules! create_form {
+macro_rules! control_form {
     ($name:ident, $table:ty, $control:path) => {
         #[inline(never)]
         #[no_mangle]
-        fn $name(t: &$table, requests: &mut [Request], passes: usize, store: &mut [u8]) -> u64 {
+        fn $name(t: &$table, requests: &mut [Request], store: &mut [u8]) -> u64 {
             let mut sum = 0;
-            for _ in 0..passes {
-                for q in requests.iter_mut() {
-                    let (w, room) = (q.writable.as_mut_ptr(), q.writable.len());
-                    let a = unsafe { $control(*t, q.guest, q.readable.as_ptr(), q.readable.len(), w, room, store.as_mut_ptr(), store.len()) };
-                    sum += u64::from(a.answer) + a.table.guests[q.guest as usize].last;
-                }
+            for q in requests.iter_mut() {
+                let (w, room) = (q.writable.as_mut_ptr(), q.writable.len());
+                let a = unsafe { $control(*t, q.guest, q.readable.as_ptr(), q.readable.len(), w, room, store.as_mut_ptr(), store.len()) };
+                sum += u64::from(a.answer) + a.table.guests[q.guest as usize].last;
             }
             sum
         }
     };
 }
 
-create_form!(create_library, Table, vcrypto_control);
-create_form!(create_yardstick, yard::Table, yard::yard_control);
+control_form!(control_library, Table, vcrypto_control);
+control_form!(control_yardstick, yard::Table, yard::yard_control);
+
+#[inline(never)]
+#[no_mangle]
+fn attach_library(t: &Table, store: &mut [u8]) -> u64 {
+    let mut sum = 0;
+    for guest in 0..8 {
+        let a = unsafe { vcrypto_attach(*t, guest, 1, store.as_mut_ptr(), store.len()) };
+        sum += u64::from(a.answer) + a.table.occupied[0];
+    }
+    sum
+}
+
+#[inline(never)]
+#[no_mangle]
+fn key_library(t: &Table, slots: &[yard::Slot], store: &[u8]) -> u64 {
+    let mut sum = 0;
+    for s in slots {
+        let key = unsafe { vcrypto_key(*t, s.owner, s.number, store.as_ptr(), store.len()) };
+        sum += (key.start + key.size) as u64;
+    }
+    sum
+}
 
 // ---- equal answers, jobs, writable bytes, tables and key stores
 
@@ -216,7 +235,7 @@ fn quantile(v: &[f64], q: f64) -> f64 {
     w[((w.len() - 1) as f64 * q).round() as usize]
 }
 
-// The times of N forms for one call, in ns; the forms take turns within a round.
+// The times of N forms for one call, in ns. A turn is one pass, under a millisecond, so that what disturbs one form of a round meets the others too.
 fn measure<const N: usize>(rounds: usize, calls: usize, mut form: impl FnMut(usize, usize) -> u64) -> [Vec<f64>; N] {
     let mut times = [const { Vec::new() }; N];
     for round in 0..rounds {
@@ -232,58 +251,88 @@ fn measure<const N: usize>(rounds: usize, calls: usize, mut form: impl FnMut(usi
     times
 }
 
-// Least and median of each form, and the library's median, 10 % and 90 % over each other form.
+// Least time and median of each form; of the library over each other form the ratio of the least times, and the median, 10 % and 90 % of the rounds'
+// ratios; how many rounds were left out of the medians, and of how many. A round is disturbed where the yardstick took 1.25 of its least time.
 fn report(times: &[Vec<f64>]) {
+    let least = |form: &[f64]| quantile(form, 0.0);
+    let limit = 1.25 * least(&times[1]);
+    let calm: Vec<usize> = (0..times[1].len()).filter(|&round| times[1][round] <= limit).collect();
+    let kept = |form: &[f64]| -> Vec<f64> { calm.iter().map(|&round| form[round]).collect() };
     for form in times {
-        print!("{:.1} {:.1} ", quantile(form, 0.0), quantile(form, 0.5));
+        print!("{:.1} {:.1} ", least(form), quantile(&kept(form), 0.5));
     }
     for under in &times[1..] {
-        let ratio: Vec<f64> = times[0].iter().zip(under).map(|(a, b)| a / b).collect();
-        print!("{:.2} {:.2} {:.2} ", quantile(&ratio, 0.5), quantile(&ratio, 0.1), quantile(&ratio, 0.9));
+        let ratio: Vec<f64> = kept(&times[0]).iter().zip(kept(under)).map(|(a, b)| a / b).collect();
+        print!("{:.2} {:.2} {:.2} {:.2} ", least(&times[0]) / least(under), quantile(&ratio, 0.5), quantile(&ratio, 0.1), quantile(&ratio, 0.9));
     }
-    println!();
+    println!("{} {}", times[1].len() - calm.len(), times[1].len());
 }
 
-const ROUNDS: usize = 32;
-const PASSES: usize = 8;
-const REQUESTS: usize = 4096; // ROUNDS * PASSES * REQUESTS = 1,048,576 for each form
-const CREATES: usize = 128; // ROUNDS * PASSES * CREATES = 32,768 for each form
+const ROUNDS: usize = 256; // for a million
+const REQUESTS: usize = 4096; // ROUNDS * REQUESTS = 1,048,576 for each form
+const CREATES: usize = 128; // ROUNDS * CREATES = 32,768 for each form
 
-fn main() {
-    assert_eq!(size_of::<Table>(), size_of::<yard::Table>());
-    let mut random = Random(88172645463325252);
-    let tables = [live_table(100, &mut random), live_table(127, &mut random)];
-    let [t, _] = tables;
-    let mut requests = prepare(REQUESTS, &t, &mut random);
-    let answers = check(&t, &requests, &mut random);
-    check_payloads(&t);
-    let controls = tables.map(|t| check_control(&t, &mut random));
-    let millions: usize = args().nth(1).map_or(0, |n| n.parse().unwrap());
-    if millions == 0 {
-        println!("answers 0 to 5: {:?} of {REQUESTS} data requests, {controls:?} of control requests", &answers[..6]);
-        return;
-    }
-
+fn time(millions: usize, tables: &[Table; 2], requests: &mut [Request]) {
     let mut pages = [Box::new(Pages([0; 1024])), Box::new(Pages([0; 1024]))];
-    let y = yard_table(&t);
-    report(&measure::<3>(ROUNDS * millions, PASSES * REQUESTS, |round, form| {
+    let (t, y) = (&tables[0], yard_table(&tables[0]));
+    report(&measure::<3>(ROUNDS * millions, REQUESTS, |round, form| {
         let word = round * 41 % 512;
         match form {
-            0 => form_library(black_box(pages[0].put(word, &t)), &mut requests, PASSES),
-            1 => form_yardstick(black_box(pages[1].put(word, &y)), &mut requests, PASSES),
-            _ => form_reference(black_box(pages[1].put(word, &y)), &mut requests, PASSES),
+            0 => form_library(black_box(pages[0].put(word, t)), requests),
+            1 => form_yardstick(black_box(pages[1].put(word, &y)), requests),
+            _ => form_reference(black_box(pages[1].put(word, &y)), requests),
         }
     }));
     let (mut store, mut requests) = (vec![0; 16384], creates());
     assert_eq!(requests.len(), CREATES);
     for t in tables {
-        let y = yard_table(&t);
-        report(&measure::<2>(ROUNDS * millions, PASSES * CREATES, |round, form| {
+        let y = yard_table(t);
+        report(&measure::<2>(ROUNDS * millions, CREATES, |round, form| {
             let word = round * 41 % 512;
             match form {
-                0 => create_library(black_box(pages[0].put(word, &t)), &mut requests, PASSES, &mut store),
-                _ => create_yardstick(black_box(pages[1].put(word, &y)), &mut requests, PASSES, &mut store),
+                0 => control_library(black_box(pages[0].put(word, t)), &mut requests, &mut store),
+                _ => control_yardstick(black_box(pages[1].put(word, &y)), &mut requests, &mut store),
             }
         }));
+    }
+}
+
+// One pass of a form over a list; the result is how many calls or data requests that is.
+fn count(form: &str, list: &str, tables: &[Table; 2], requests: &mut [Request]) -> usize {
+    let mut store = vec![0; 16384];
+    let (t, mut controls) = match list {
+        "crowded" => (&tables[1], creates()),
+        "destroys" => (&tables[0], ends(&tables[0])),
+        _ => (&tables[0], creates()),
+    };
+    let (y, slots): (_, Vec<yard::Slot>) = (yard_table(t), t.live().into_iter().map(|at| t.slots[at]).collect());
+    let (sum, calls) = match form {
+        "form_library" => (form_library(t, requests), requests.len()),
+        "form_yardstick" => (form_yardstick(&y, requests), requests.len()),
+        "control_library" => (control_library(t, &mut controls, &mut store), controls.len()),
+        "control_yardstick" => (control_yardstick(&y, &mut controls, &mut store), controls.len()),
+        "attach_library" => (attach_library(t, &mut store), 8),
+        "key_library" => (key_library(t, &slots, &store), slots.len()),
+        _ => panic!("no form {form}"),
+    };
+    black_box(sum);
+    calls
+}
+
+fn main() {
+    assert_eq!(size_of::<Table>(), size_of::<yard::Table>());
+    let mut random = Random(88172645463325252);
+    let tables = [live_table(100, &mut random), live_table(127, &mut random)];
+    let mut requests = prepare(REQUESTS, &tables[0], &mut random);
+    let words: Vec<String> = args().skip(1).collect();
+    match words.iter().map(String::as_str).collect::<Vec<_>>()[..] {
+        ["count", form, list] => println!("{}", count(form, list, &tables, &mut requests)),
+        ["time", millions] => time(millions.parse().unwrap(), &tables, &mut requests),
+        _ => {
+            let answers = check(&tables[0], &requests, &mut random);
+            check_payloads(&tables[0]);
+            let controls = tables.map(|t| check_control(&t, &mut random));
+            println!("answers 0 to 5: {:?} of {REQUESTS} data requests, {controls:?} of control requests", &answers[..6]);
+        }
     }
 }

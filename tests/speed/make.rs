@@ -75,8 +75,7 @@ pub fn live_table(sessions: usize, random: &mut Random) -> Table {
     for _ in 0..30 {
         let live = t.live();
         let s = t.slots[live[random.below(live.len() as u64) as usize]];
-        let r = [words(&[u32::from(s.service) * 256 + 3, 0, 0, 0]), s.number.to_le_bytes().to_vec()].concat();
-        t = control(t, s.owner, &r, 1, &mut store);
+        t = control(t, s.owner, &destroy(&s, s.number).readable, 1, &mut store);
     }
     for k in 110..30 + sessions {
         t = control(t, (k % 8) as u8, &create(k), 16, &mut store);
@@ -185,12 +184,18 @@ pub fn creates() -> Vec<Request> {
     (0..8 * SESSIONS.len()).map(one).collect()
 }
 
-// Destroys of live sessions, and of the numbers after them.
+fn destroy(s: &yard::Slot, number: u64) -> Request {
+    let readable = [words(&[u32::from(s.service) * 256 + 3, 0, 0, 0]), number.to_le_bytes().to_vec()].concat();
+    Request { guest: s.owner, verdict: 0, readable, writable: vec![0xee; 1] }
+}
+
+// A destroy of each live session.
+pub fn ends(t: &Table) -> Vec<Request> {
+    t.live().into_iter().map(|slot| destroy(&t.slots[slot], t.slots[slot].number)).collect()
+}
+
+// The same, and of the numbers after them.
 pub fn destroys(t: &Table) -> Vec<Request> {
-    let one = |slot: usize, more: u64| {
-        let s = t.slots[slot];
-        let readable = [words(&[u32::from(s.service) * 256 + 3, 0, 0, 0]), (s.number + more).to_le_bytes().to_vec()].concat();
-        Request { guest: s.owner, verdict: 0, readable, writable: vec![0xee; 1] }
-    };
-    t.live().into_iter().flat_map(|slot| [one(slot, 0), one(slot, 1)]).collect()
+    let after = t.live().into_iter().map(|slot| destroy(&t.slots[slot], t.slots[slot].number + 1));
+    ends(t).into_iter().chain(after).collect()
 }
