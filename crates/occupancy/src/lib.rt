@@ -1,4 +1,4 @@
-// The held slots as the bits of two words: whether a slot is held, the first that is free, how many are held, and the words with one marked anew.
+// The held slots as the bits of two words: whether a slot is held, the first that is free, how many are held, and the words with one marked anew or all moved.
 ghost use mathlib.Core.Path.{_≡_};
 ghost use mathlib.Core.Bool.{false, not};
 ghost use Prim.Native.Nat.{ℕ, suc};
@@ -47,7 +47,7 @@ pub fn is_held(o: model::Occupied, slot: usize) -> bool
     has_bit(o.high, slot - 64)
 }
 
-// The words with each mark moved down by one slot: a search that goes on from slot to slot asks for slot 0 alone.
+// The words with each mark moved down by one slot, so that a pass over the slots asks for slot 0 alone. 2^63 is the highest bit of a word.
 pub fn moved_down(o: model::Occupied) -> model::Occupied
     ensures { λ r. ⌜ ((i : ℕ) → marked r i ≡ marked o (suc i)) ⌝ }
 {
