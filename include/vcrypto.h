@@ -1,9 +1,17 @@
-/* The device side of a virtio crypto device for eight guests: the ten calls of libhost.a.
+/* libvcrypto: the device side of a virtio crypto device for eight guests, as ten calls.
  *
- * Every call answers for any bytes, any lengths and any table; nothing is required of the caller but that each pointer has its length's bytes, that no
- * writable bytes overlap others lent to the same call, and that a bool is 0 or 1. A length of 0 takes any pointer that is not null.
- * Every answer but VCRYPTO_OK leaves table and key store as they were; one from VCRYPTO_BAD_GUEST on writes nothing at all.
- * A host keeps the table that the last call returned, lends the one key store, and calls from one thread at a time. */
+ * A host takes requests from its guests' queues, calls the library with their bytes, has its card do what was accepted, and reports how that
+ * went. docs/RULES.md has the whole of the rules, and the numbers in brackets below are its rules. An example of each service stands in examples/.
+ *
+ * Every call answers for any bytes, any lengths and any table. What is left to the caller:
+ *   - each pointer has as many bytes as its length says; a null pointer is fine where the length is 0;
+ *   - no writable bytes, and not the key store, overlap other bytes lent to the same call;
+ *   - the bytes lent do not change during a call: where a guest could still write to a request, copy it first;
+ *   - a bool in a table is 0 or 1;
+ *   - the table is the one that the last call returned, the key store always the same and written by nobody else, and one call runs at a time.
+ *
+ * Every answer but VCRYPTO_OK leaves table and key store as they were; one from VCRYPTO_BAD_GUEST on writes nothing at all [2.3, 2.4].
+ * Integers in configurations, requests and outcomes have their lowest byte first [1.3]. */
 #ifndef VCRYPTO_H
 #define VCRYPTO_H
 
@@ -15,14 +23,21 @@
 extern "C" {
 #endif
 
-/* Answers. 0 to 5 are document 001's status codes. */
+#define VCRYPTO_VERSION_MAJOR 0
+#define VCRYPTO_VERSION_MINOR 1
+#define VCRYPTO_VERSION_PATCH 0
+#define VCRYPTO_VERSION "0.1.0"
+
+/* ---- numbers */
+
+/* Answers [2.1]. 0 to 5 are also the status that a guest reads. Each call below says what its answers come from. */
 enum {
-    VCRYPTO_OK = 0,
-    VCRYPTO_ERR = 1,
-    VCRYPTO_BADMSG = 2,
-    VCRYPTO_NOTSUPP = 3,
-    VCRYPTO_INVSESS = 4,
-    VCRYPTO_NOSPC = 5,
+    VCRYPTO_OK = 0,           /* granted, accepted */
+    VCRYPTO_ERR = 1,          /* refused, for a reason without a number of its own */
+    VCRYPTO_BADMSG = 2,       /* the tag of an AEAD decryption is wrong; by vcrypto_finish alone */
+    VCRYPTO_NOTSUPP = 3,      /* service, operation, algorithm or mode not offered */
+    VCRYPTO_INVSESS = 4,      /* no such session */
+    VCRYPTO_NOSPC = 5,        /* no room for another session of this guest */
     VCRYPTO_BAD_GUEST = 16,   /* above 7, or not attached */
     VCRYPTO_NO_OUTCOME = 17,  /* no place for the outcome in the writable bytes */
     VCRYPTO_BAD_STORE = 18,   /* the key store is not VCRYPTO_STORE_SIZE bytes */
@@ -31,39 +46,136 @@ enum {
     VCRYPTO_BAD_CONFIG = 21   /* configuration refused */
 };
 
+/* Services; also their bits in the configuration's crypto_services [3.1]. */
+enum {
+    VCRYPTO_CIPHER = 0,
+    VCRYPTO_HASH = 1,
+    VCRYPTO_MAC = 2,
+    VCRYPTO_AEAD = 3
+};
+
+/* Opcodes of control requests [3.2]. */
+enum {
+    VCRYPTO_CIPHER_CREATE = 0x0002,
+    VCRYPTO_CIPHER_DESTROY = 0x0003,
+    VCRYPTO_HASH_CREATE = 0x0102,
+    VCRYPTO_HASH_DESTROY = 0x0103,
+    VCRYPTO_MAC_CREATE = 0x0202,
+    VCRYPTO_MAC_DESTROY = 0x0203,
+    VCRYPTO_AEAD_CREATE = 0x0302,
+    VCRYPTO_AEAD_DESTROY = 0x0303
+};
+
+/* Opcodes of data requests [3.3]. */
+enum {
+    VCRYPTO_CIPHER_ENCRYPT = 0x0000,
+    VCRYPTO_CIPHER_DECRYPT = 0x0001,
+    VCRYPTO_HASH_DATA = 0x0100,
+    VCRYPTO_MAC_DATA = 0x0200,
+    VCRYPTO_AEAD_ENCRYPT = 0x0300,
+    VCRYPTO_AEAD_DECRYPT = 0x0301
+};
+
+/* Directions of a cipher or AEAD session [3.4]. */
+enum {
+    VCRYPTO_ENCRYPT = 1,
+    VCRYPTO_DECRYPT = 2
+};
+
+/* Algorithms; also their bits in the mask of their service [3.5]. Their key, IV, result and tag lengths: [9]. */
+enum {
+    VCRYPTO_AES_ECB = 2,
+    VCRYPTO_AES_CBC = 3,
+    VCRYPTO_AES_CTR = 4,
+    VCRYPTO_3DES_CBC = 8,
+    VCRYPTO_AES_XTS = 13
+};
+enum {
+    VCRYPTO_MD5 = 1,
+    VCRYPTO_SHA1 = 2,
+    VCRYPTO_SHA_224 = 3,
+    VCRYPTO_SHA_256 = 4,
+    VCRYPTO_SHA_384 = 5,
+    VCRYPTO_SHA_512 = 6
+};
+enum {
+    VCRYPTO_HMAC_MD5 = 1,
+    VCRYPTO_HMAC_SHA1 = 2,
+    VCRYPTO_HMAC_SHA_224 = 3,
+    VCRYPTO_HMAC_SHA_256 = 4,
+    VCRYPTO_HMAC_SHA_384 = 5,
+    VCRYPTO_HMAC_SHA_512 = 6,
+    VCRYPTO_CMAC_AES = 26
+};
+enum {
+    VCRYPTO_GCM = 1,
+    VCRYPTO_CCM = 2,
+    VCRYPTO_CHACHA20_POLY1305 = 3
+};
+
+/* Values that a request or a configuration must have to be taken. */
+enum {
+    VCRYPTO_READY = 1,        /* the configuration's status [4.2] */
+    VCRYPTO_REVISION_1 = 1,   /* the feature word of an attach [5.1] */
+    VCRYPTO_SESSION_MODE = 1, /* flag in the header of a data request [10.2] */
+    VCRYPTO_OP_CIPHER = 1     /* op_type of cipher requests [8.3, 10.3] */
+};
+
+/* Sizes in bytes of what a request is made of: header, then the fixed part of its operation, then the variable parts [8, 10]. */
+enum {
+    VCRYPTO_CONTROL_HEADER = 16,
+    VCRYPTO_CIPHER_CREATE_PART = 56,
+    VCRYPTO_HASH_CREATE_PART = 8,
+    VCRYPTO_MAC_CREATE_PART = 16,
+    VCRYPTO_AEAD_CREATE_PART = 24,
+    VCRYPTO_DESTROY_PART = 8,
+    VCRYPTO_CREATE_OUTCOME = 16, /* session_id (8), status (4), padding (4) */
+    VCRYPTO_DESTROY_OUTCOME = 1, /* status */
+    VCRYPTO_DATA_HEADER = 24,
+    VCRYPTO_CIPHER_DATA_PART = 48,
+    VCRYPTO_HASH_DATA_PART = 8,
+    VCRYPTO_MAC_DATA_PART = 8,
+    VCRYPTO_AEAD_DATA_PART = 24,
+    VCRYPTO_DATA_OUTCOME = 1 /* status, behind the destination or result */
+};
+
 enum {
     VCRYPTO_GUESTS = 8,
     VCRYPTO_SLOTS = 128,
+    VCRYPTO_KEY_AREA = 128, /* of each slot in the key store */
     VCRYPTO_STORE_SIZE = 16384,
     VCRYPTO_CONFIG_SIZE = 56,
-    VCRYPTO_TABLE_SIZE = 3272
+    VCRYPTO_TABLE_SIZE = 3272,
+    VCRYPTO_MAX_SIZE = 1048576 /* the largest max_size of a configuration */
 };
 
-/* virtio_crypto_config, field by field. */
+/* ---- structures */
+
+/* A configuration, field by field in the order of its 56 bytes [4.1]. */
 struct vcrypto_config {
     uint32_t status;
-    uint32_t queues;
-    uint32_t services;
-    uint32_t ciphers;
-    uint32_t ciphers2;
-    uint32_t hashes;
-    uint32_t macs;
-    uint32_t macs2;
-    uint32_t aeads;
-    uint32_t cipherkey;
-    uint32_t authkey;
+    uint32_t queues;    /* max_dataqueues */
+    uint32_t services;  /* crypto_services */
+    uint32_t ciphers;   /* cipher_algo_l */
+    uint32_t ciphers2;  /* cipher_algo_h */
+    uint32_t hashes;    /* hash_algo */
+    uint32_t macs;      /* mac_algo_l */
+    uint32_t macs2;     /* mac_algo_h */
+    uint32_t aeads;     /* aead_algo */
+    uint32_t cipherkey; /* max_cipher_key_len */
+    uint32_t authkey;   /* max_auth_key_len */
     uint32_t reserved;
-    uint64_t size;
+    uint64_t size; /* max_size */
 };
 
-/* Which slots are held: slot s by bit s of `low` for s up to 63, and by bit s - 64 of `high` from there on. */
+/* Which slots are held: slot s by bit s of `low` for s up to 63, and by bit s - 64 of `high` from there on [6.2]. */
 struct vcrypto_occupied {
     uint64_t low;
     uint64_t high;
 };
 
-/* A session. What the fields of a slot hold whose bit is clear means nothing; a slot that is freed is left all zero.
- * `result` is a hash or MAC result, or an AEAD tag. */
+/* A session [6.3]. What the fields of a slot hold whose bit is clear means nothing; a slot that is freed is left all zero.
+ * `result` is the length of a hash or MAC result, or of an AEAD tag. */
 struct vcrypto_slot {
     uint64_t number;
     uint32_t aad;
@@ -75,7 +187,7 @@ struct vcrypto_slot {
     uint8_t result;
 };
 
-/* A guest's shares, and the last session number given to it since its last attach. */
+/* A guest's shares, and the last session number given to it since its last attach [6.5]. */
 struct vcrypto_guest {
     bool attached;
     uint8_t reserve;
@@ -83,6 +195,9 @@ struct vcrypto_guest {
     uint64_t last;
 };
 
+/* How a host learns what its card is to run [12.4]: after vcrypto_admit has answered VCRYPTO_OK, the session is the held slot whose owner and number
+ * are the guest and the number that it named. There is one in any table that calls have left. Its algo is the algorithm, its result the length of the
+ * tag or result. find_session in examples/host.h does this. */
 struct vcrypto_table {
     struct vcrypto_config config;
     struct vcrypto_occupied occupied;
@@ -110,28 +225,68 @@ struct vcrypto_span {
     size_t size;
 };
 
-/* A fresh table from a configuration of 56 bytes, with a max_size of at most 1,048,576, and each guest's reserve and cap.
- * Answers VCRYPTO_BAD_STORE, _BAD_CONFIG, _BAD_SHARES in this order, or _OK.
- * _OK: all slots free, no guest attached, the store all zero. Else: a table that offers nothing, and the store as it was. */
+/* ---- the calls; each lists its checks in order, with the answer where one fails */
+
+/* A fresh table from a configuration and each guest's reserve and cap; eight bytes each. [4]
+ *   BAD_STORE    store_len is not 16,384
+ *   BAD_CONFIG   not 56 bytes; status not 1; max_dataqueues not 1 to 8; a bit of crypto_services above 3; a mask's bit of no algorithm above;
+ *                a key limit above 64; reserved not 0; max_size above 1,048,576
+ *   BAD_SHARES   a reserve above its cap, a cap above 128, or reserves that sum to more than 128
+ * OK: all slots free, no guest attached, the store all zero. Else: a table that offers nothing, and the store as it was. */
 struct vcrypto_reply vcrypto_set_up(const uint8_t *config, size_t config_len, const uint8_t reserves[VCRYPTO_GUESTS], const uint8_t caps[VCRYPTO_GUESTS],
                                     uint8_t *store, size_t store_len);
 
-/* The reset of a guest: frees its slots, zeroes their key areas, restarts its session numbers. Only the feature word 1 is taken.
- * Answers VCRYPTO_BAD_STORE, _BAD_GUEST, _BAD_FEATURE in this order, or _OK. */
+/* Attaches a guest; of an attached one it is the reset. Frees its slots, zeroes their key areas, restarts its session numbers. [5]
+ *   BAD_STORE    store_len is not 16,384
+ *   BAD_GUEST    guest above 7
+ *   BAD_FEATURE  word is not 1 */
 struct vcrypto_reply vcrypto_attach(struct vcrypto_table table, uint8_t guest, uint32_t word, uint8_t *store, size_t store_len);
 
-/* A create or a destroy: one control request.
- * 16 writable bytes take session_id, status and padding; one takes the status; any other length is VCRYPTO_NO_OUTCOME.
- * A granted create writes the slot's whole key area, a granted destroy zeroes it. */
+/* One control request: a create or a destroy. [8]
+ *   BAD_STORE    store_len is not 16,384
+ *   BAD_GUEST    guest above 7, or not attached
+ *   NO_OUTCOME   neither 16 writable bytes nor 1
+ *   ERR          fewer readable bytes than the header's 16
+ *   NOTSUPP      unknown opcode, or its service is not offered
+ *   ERR          not 16 writable bytes for a create, 1 for a destroy
+ *   ERR          fewer readable bytes than header and fixed part
+ * then of a create:
+ *   NOTSUPP      cipher: op_type is not 1
+ *   NOTSUPP      the fixed part's algorithm is not offered
+ *   ERR          the header's algo is another
+ *   ERR          cipher, AEAD: the direction is neither 1 nor 2
+ *   ERR          key, result or tag length against the rules, or a key above the configuration's limit [9]
+ *   ERR          readable bytes are not exactly header, fixed part and key
+ *   ERR          no session number is left for this guest
+ *   NOSPC        it holds its cap; or its reserve, and what is left is kept for the others' reserves; or no slot is free [6.10]
+ * of a destroy:
+ *   ERR          not 24 readable bytes
+ *   ERR          no live session of this guest and service has that number
+ * The outcome goes by the writable length: 16 bytes take session_id (0 on refusal), status and padding 0; one byte takes the status.
+ * A granted create writes its slot's whole key area, a granted destroy zeroes it. */
 struct vcrypto_reply vcrypto_control(struct vcrypto_table table, uint8_t guest, const uint8_t *readable, size_t readable_len, uint8_t *writable,
                                      size_t writable_len, uint8_t *store, size_t store_len);
 
-/* Takes or refuses a data request. A refusal from 1 to 5 writes the last writable byte; an acceptance writes nothing until vcrypto_finish. */
+/* Takes or refuses one data request. [10]
+ *   BAD_GUEST    guest above 7, or not attached
+ *   NO_OUTCOME   no writable byte
+ *   ERR          fewer readable bytes than the header's 24
+ *   NOTSUPP      unknown opcode, or its service is not offered
+ *   NOTSUPP      flag is 0
+ *   ERR          flag is not 1
+ *   INVSESS      no live session of this guest, of this service and direction, has that number
+ *   ERR          fewer readable bytes than header and fixed part
+ *   NOTSUPP      cipher: op_type is not 1
+ *   ERR          IV, source, AAD and what is written sum to more than max_size
+ *   ERR          readable bytes are not exactly header, fixed part, IV, source and AAD, or writable ones not destination or result and 1
+ *   ERR          lengths against the rules, or AAD, tag or result not the session's [9]
+ * A refusal from 1 to 5 writes the last writable byte; an acceptance writes nothing until vcrypto_finish. The table does not change. */
 struct vcrypto_admission vcrypto_admit(struct vcrypto_table table, uint8_t guest, const uint8_t *readable, size_t readable_len, uint8_t *writable,
                                        size_t writable_len);
 
-/* Where the IV, the source and the AAD of a data request lie in its readable bytes; empty where it is refused or has none. They write nothing.
- * Of an AEAD decryption the source is ciphertext followed by tag, and the destination is shorter by the tag; of an encryption it is longer by the tag. */
+/* Where the IV, the source and the AAD of a data request lie in its readable bytes; empty where it is refused or has none. They write nothing. [10.11]
+ * Of an AEAD encryption the tag goes behind the ciphertext: the destination is source and tag. Of a decryption the last bytes of the source are the
+ * tag, as many as the session's `result`, and the destination is shorter by them. [12.5] */
 struct vcrypto_span vcrypto_iv(struct vcrypto_table table, uint8_t guest, const uint8_t *readable, size_t readable_len, const uint8_t *writable,
                                size_t writable_len);
 struct vcrypto_span vcrypto_source(struct vcrypto_table table, uint8_t guest, const uint8_t *readable, size_t readable_len, const uint8_t *writable,
@@ -139,14 +294,19 @@ struct vcrypto_span vcrypto_source(struct vcrypto_table table, uint8_t guest, co
 struct vcrypto_span vcrypto_aad(struct vcrypto_table table, uint8_t guest, const uint8_t *readable, size_t readable_len, const uint8_t *writable,
                                 size_t writable_len);
 
-/* Key fetch. Its answer: VCRYPTO_BAD_STORE, _BAD_GUEST, _INVSESS in this order, or _OK. Writes nothing. */
+/* The answer of a key fetch; writes nothing. [7.5]
+ *   BAD_STORE    store_len is not 16,384
+ *   BAD_GUEST    guest above 7, or not attached
+ *   INVSESS      no live session of this guest has that number */
 uint8_t vcrypto_key_answer(struct vcrypto_table table, uint8_t guest, uint64_t number, const uint8_t *store, size_t store_len);
 
-/* Where the session's key lies in the store; empty where that answer is not VCRYPTO_OK, and for a hash. Writes nothing. */
+/* Where the session's key lies in the store; empty where that answer is not OK, and for a hash. Writes nothing. [7.6] */
 struct vcrypto_span vcrypto_key(struct vcrypto_table table, uint8_t guest, uint64_t number, const uint8_t *store, size_t store_len);
 
-/* Writes the verdict of the host's crypto call as the last writable byte: 0, 1, or 2 for AEAD decryption; any other as 1.
- * Answers VCRYPTO_BAD_GUEST, _NO_OUTCOME in this order, or the byte written. */
+/* Writes the verdict on an accepted data request as the last writable byte, and answers that byte: OK, ERR, or BADMSG where the opcode is
+ * VCRYPTO_AEAD_DECRYPT; ERR for any other verdict. The opcode is the one that vcrypto_admit named. [11]
+ *   BAD_GUEST    guest above 7, or not attached
+ *   NO_OUTCOME   no writable byte */
 uint8_t vcrypto_finish(struct vcrypto_table table, uint8_t guest, uint32_t opcode, uint8_t verdict, uint8_t *writable, size_t writable_len);
 
 #ifdef __cplusplus

@@ -1,4 +1,4 @@
-/* The sizes and places of the header's structures on x86-64, as libhost.a lays them out. */
+/* The sizes and places of the header's structures on x86-64, as libvcrypto.a lays them out. */
 #include "vcrypto.h"
 
 #define SIZE(name, n) _Static_assert(sizeof(struct vcrypto_##name) == (n), #name " has another size")

@@ -1,4 +1,5 @@
-/* The offsets, sizes and numbers of the definitions against those of the kernel's own header. ours.h is made from crates/model/specs by ours.awk.
+/* The offsets, sizes and numbers of the definitions and of vcrypto.h against those of the kernel's own header. ours.h is made from crates/model/specs
+ * by ours.awk.
  * The kernel's header has the requests of devices without revision 1: each service's structure is padded to 56 or 48 bytes, so the unpadded ones are
  * compared. Where its fields differ from document 001's, a comment says how. */
 #include <linux/virtio_crypto.h>
@@ -39,6 +40,9 @@ static void same_list(const char *what, const size_t *ours, size_t n, const size
 #define LIST(name, ...) same_list(#name, (size_t[]){NUMBERS_##name}, COUNT(NUMBERS_##name), (size_t[]){__VA_ARGS__}, COUNT(__VA_ARGS__))
 #define NUMBER(name, i, theirs) same(#name, (size_t[]){NUMBERS_##name}[i], theirs)
 
+/* A constant of vcrypto.h, by its name there. */
+#define CONSTANT(name, theirs) same("VCRYPTO_" #name, VCRYPTO_##name, theirs)
+
 /* A field of the configuration, read by the definition and declared in vcrypto.h. */
 #define CONFIG(ours, theirs)                                                                                         \
     do {                                                                                                             \
@@ -66,6 +70,8 @@ static void configuration(void)
     NUMBER(setUpOrder, 0, sizeof(struct virtio_crypto_config));
     same("VCRYPTO_CONFIG_SIZE", VCRYPTO_CONFIG_SIZE, sizeof(struct virtio_crypto_config));
     NUMBER(configOk, 0, VIRTIO_CRYPTO_S_HW_READY);
+    CONSTANT(READY, VIRTIO_CRYPTO_S_HW_READY);
+    LIST(sizeLimit, VCRYPTO_MAX_SIZE);
 }
 
 static void control_requests(void)
@@ -77,6 +83,7 @@ static void control_requests(void)
     FIELD(formChecks, 0, virtio_crypto_ctrl_header, algo);
     NUMBER(newEntry, 0, sizeof(struct virtio_crypto_ctrl_header));
     same("fixed part of a control request", sizeof(struct virtio_crypto_ctrl_header), part);
+    CONSTANT(CONTROL_HEADER, sizeof(struct virtio_crypto_ctrl_header));
 
     /* asked_1 to asked_4: cipher, hash, MAC, AEAD */
     FIELD(asked_1_algo, part, virtio_crypto_sym_create_session_req, u.cipher.para.algo);
@@ -84,6 +91,7 @@ static void control_requests(void)
     FIELD(asked_1_direction, part, virtio_crypto_sym_create_session_req, u.cipher.para.op);
     FIELD(plainCreate, part, virtio_crypto_sym_create_session_req, op_type);
     LIST(plainCreate, VIRTIO_CRYPTO_SYM_OP_CIPHER);
+    CONSTANT(OP_CIPHER, VIRTIO_CRYPTO_SYM_OP_CIPHER);
 
     FIELD(asked_2_algo, part, virtio_crypto_hash_session_para, algo);
     FIELD(asked_2_result, part, virtio_crypto_hash_session_para, hash_result_len);
@@ -102,12 +110,14 @@ static void control_requests(void)
     /* 001's fixed part of a hash ends before the kernel's padding */
     LIST(createPart, sizeof(struct virtio_crypto_sym_create_session_req), offsetof(struct virtio_crypto_hash_session_para, padding),
          sizeof(struct virtio_crypto_mac_session_para), sizeof(struct virtio_crypto_aead_session_para));
+    LIST(createPart, VCRYPTO_CIPHER_CREATE_PART, VCRYPTO_HASH_CREATE_PART, VCRYPTO_MAC_CREATE_PART, VCRYPTO_AEAD_CREATE_PART);
 
     /* so does that of a destroy */
     FIELD(controlAct, part, virtio_crypto_destroy_session_req, session_id);
     FIELD(destroyChecks, part, virtio_crypto_destroy_session_req, session_id);
     NUMBER(endChecks, 0, part + offsetof(struct virtio_crypto_destroy_session_req, padding));
     NUMBER(headChecks, 4, offsetof(struct virtio_crypto_destroy_session_req, padding));
+    CONSTANT(DESTROY_PART, offsetof(struct virtio_crypto_destroy_session_req, padding));
 
     /* le 8 session_id, le 4 status, le 4 padding */
     NUMBER(controlOutcome, 0, sizeof(struct virtio_crypto_session_input));
@@ -115,6 +125,8 @@ static void control_requests(void)
     NUMBER(controlOutcome, 1, offsetof(struct virtio_crypto_session_input, status));
     NUMBER(controlOutcome, 2, SIZE_OF(virtio_crypto_session_input, status));
     NUMBER(controlOutcome, 3, SIZE_OF(virtio_crypto_session_input, padding));
+    CONSTANT(CREATE_OUTCOME, sizeof(struct virtio_crypto_session_input));
+    CONSTANT(DESTROY_OUTCOME, sizeof(struct virtio_crypto_inhdr));
 }
 
 static void data_requests(void)
@@ -127,6 +139,7 @@ static void data_requests(void)
     FIELD(flag, 0, virtio_crypto_op_header, flag);
     NUMBER(startOf, 0, sizeof(struct virtio_crypto_op_header));
     same("fixed part of a data request", sizeof(struct virtio_crypto_op_header), part);
+    CONSTANT(DATA_HEADER, sizeof(struct virtio_crypto_op_header));
 
     /* lengths_1 to lengths_3: cipher, AEAD, and both hash and MAC */
     FIELD(lengths_1_iv, part, virtio_crypto_sym_data_req, u.cipher.para.iv_len);
@@ -152,6 +165,9 @@ static void data_requests(void)
     LIST(dataPart, sizeof(struct virtio_crypto_sym_data_req), sizeof(struct virtio_crypto_hash_para),
          sizeof(struct virtio_crypto_aead_para) + sizeof(__le32) + sizeof(__le32));
     same("fixed part of a MAC", sizeof(struct virtio_crypto_mac_para), sizeof(struct virtio_crypto_hash_para));
+    LIST(dataPart, VCRYPTO_CIPHER_DATA_PART, VCRYPTO_HASH_DATA_PART, VCRYPTO_AEAD_DATA_PART);
+    CONSTANT(MAC_DATA_PART, sizeof(struct virtio_crypto_mac_para));
+    CONSTANT(DATA_OUTCOME, sizeof(struct virtio_crypto_inhdr));
 }
 
 static void numbers(void)
@@ -162,12 +178,21 @@ static void numbers(void)
     LIST(aead, VIRTIO_CRYPTO_SERVICE_AEAD);
     LIST(encrypt, VIRTIO_CRYPTO_OP_ENCRYPT);
     LIST(decrypt, VIRTIO_CRYPTO_OP_DECRYPT);
+    CONSTANT(CIPHER, VIRTIO_CRYPTO_SERVICE_CIPHER);
+    CONSTANT(HASH, VIRTIO_CRYPTO_SERVICE_HASH);
+    CONSTANT(MAC, VIRTIO_CRYPTO_SERVICE_MAC);
+    CONSTANT(AEAD, VIRTIO_CRYPTO_SERVICE_AEAD);
+    CONSTANT(ENCRYPT, VIRTIO_CRYPTO_OP_ENCRYPT);
+    CONSTANT(DECRYPT, VIRTIO_CRYPTO_OP_DECRYPT);
 
     LIST(opcodeOk, VIRTIO_CRYPTO_CIPHER_CREATE_SESSION, VIRTIO_CRYPTO_CIPHER_DESTROY_SESSION, VIRTIO_CRYPTO_HASH_CREATE_SESSION,
          VIRTIO_CRYPTO_HASH_DESTROY_SESSION, VIRTIO_CRYPTO_MAC_CREATE_SESSION, VIRTIO_CRYPTO_MAC_DESTROY_SESSION, VIRTIO_CRYPTO_AEAD_CREATE_SESSION,
          VIRTIO_CRYPTO_AEAD_DESTROY_SESSION);
+    LIST(opcodeOk, VCRYPTO_CIPHER_CREATE, VCRYPTO_CIPHER_DESTROY, VCRYPTO_HASH_CREATE, VCRYPTO_HASH_DESTROY, VCRYPTO_MAC_CREATE, VCRYPTO_MAC_DESTROY,
+         VCRYPTO_AEAD_CREATE, VCRYPTO_AEAD_DESTROY);
     LIST(operationOk, VIRTIO_CRYPTO_CIPHER_ENCRYPT, VIRTIO_CRYPTO_CIPHER_DECRYPT, VIRTIO_CRYPTO_HASH, VIRTIO_CRYPTO_MAC, VIRTIO_CRYPTO_AEAD_ENCRYPT,
          VIRTIO_CRYPTO_AEAD_DECRYPT);
+    LIST(operationOk, VCRYPTO_CIPHER_ENCRYPT, VCRYPTO_CIPHER_DECRYPT, VCRYPTO_HASH_DATA, VCRYPTO_MAC_DATA, VCRYPTO_AEAD_ENCRYPT, VCRYPTO_AEAD_DECRYPT);
     LIST(serviceOf, VIRTIO_CRYPTO_OPCODE(1, 0));
     NUMBER(status, 0, VIRTIO_CRYPTO_AEAD_DECRYPT);
 
@@ -178,6 +203,11 @@ static void numbers(void)
     LIST(macs, VIRTIO_CRYPTO_MAC_HMAC_MD5, VIRTIO_CRYPTO_MAC_HMAC_SHA1, VIRTIO_CRYPTO_MAC_HMAC_SHA_224, VIRTIO_CRYPTO_MAC_HMAC_SHA_256,
          VIRTIO_CRYPTO_MAC_HMAC_SHA_384, VIRTIO_CRYPTO_MAC_HMAC_SHA_512, VIRTIO_CRYPTO_MAC_CMAC_AES);
     LIST(aeads, VIRTIO_CRYPTO_AEAD_GCM, VIRTIO_CRYPTO_AEAD_CCM, VIRTIO_CRYPTO_AEAD_CHACHA20_POLY1305);
+    LIST(ciphers, VCRYPTO_AES_ECB, VCRYPTO_AES_CBC, VCRYPTO_AES_CTR, VCRYPTO_3DES_CBC, VCRYPTO_AES_XTS);
+    LIST(hashes, VCRYPTO_MD5, VCRYPTO_SHA1, VCRYPTO_SHA_224, VCRYPTO_SHA_256, VCRYPTO_SHA_384, VCRYPTO_SHA_512);
+    LIST(macs, VCRYPTO_HMAC_MD5, VCRYPTO_HMAC_SHA1, VCRYPTO_HMAC_SHA_224, VCRYPTO_HMAC_SHA_256, VCRYPTO_HMAC_SHA_384, VCRYPTO_HMAC_SHA_512,
+         VCRYPTO_CMAC_AES);
+    LIST(aeads, VCRYPTO_GCM, VCRYPTO_CCM, VCRYPTO_CHACHA20_POLY1305);
 
     /* the kernel's KEY_REJECTED, 6, is of the asymmetric service */
     LIST(ok, VIRTIO_CRYPTO_OK);
@@ -193,6 +223,21 @@ static void numbers(void)
     LIST(invsess, VCRYPTO_INVSESS);
     LIST(nospc, VCRYPTO_NOSPC);
     same("the status of a data request", 1, sizeof(struct virtio_crypto_inhdr));
+
+    /* the device's own answers, and its sizes */
+    LIST(badGuest, VCRYPTO_BAD_GUEST);
+    LIST(noOutcome, VCRYPTO_NO_OUTCOME);
+    LIST(badStore, VCRYPTO_BAD_STORE);
+    LIST(badFeature, VCRYPTO_BAD_FEATURE);
+    LIST(badShares, VCRYPTO_BAD_SHARES);
+    LIST(badConfig, VCRYPTO_BAD_CONFIG);
+    LIST(slotCount, VCRYPTO_SLOTS);
+    LIST(areaSize, VCRYPTO_KEY_AREA);
+    LIST(storeSize, VCRYPTO_STORE_SIZE);
+    NUMBER(present, 0, VCRYPTO_GUESTS);
+    /* the one value that each is compared with: eqb word 1, eqb flag 1 */
+    NUMBER(attachChecks, 1, VCRYPTO_REVISION_1);
+    NUMBER(operationChecks, 3, VCRYPTO_SESSION_MODE);
 }
 
 int main(void)

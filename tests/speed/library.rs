@@ -65,7 +65,7 @@ pub struct Span {
     pub size: usize,
 }
 
-#[link(name = "host", kind = "static")]
+#[link(name = "vcrypto", kind = "static")]
 extern "C" {
     pub fn vcrypto_set_up(
         config: *const u8,

@@ -1,4 +1,4 @@
-// Data admission and control through libhost.a against the yardstick: the same prepared requests, over tables with live sessions. Of the data
+// Data admission and control through libvcrypto.a against the yardstick: the same prepared requests, over tables with live sessions. Of the data
 // requests half are refused, and each accepted job is finished at once and measured with it; the creates are all granted. `run` builds several
 // binaries of this and says how. Without a word the two sides are compared; `time MILLIONS` prints times, and `count FORM LIST` makes one pass of
 // one form, for whoever counts its instructions.

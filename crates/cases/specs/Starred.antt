@@ -1,4 +1,4 @@
--- Paper 01, "Both sides of each edge": the starred cases, one table, proved by one statement.
+-- Paper 01, "Both sides of each edge": the starred cases, one table, proved by one statement. [15.3, 16.1]
 -- Assumes nothing.
 use Prim.Native.Nat.{ℕ}
 use mathlib.Core.Path.{_≡_, refl}

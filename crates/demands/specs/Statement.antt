@@ -1,4 +1,5 @@
 -- The demands, as statements about the definitions of crate model. The other files of this crate prove them; no proof stands here.
+-- In brackets: the rules of docs/RULES.md.
 -- Assumes nothing.
 use mathlib.Core.Path.{_≡_}
 use mathlib.Core.Logic.{_⊎_}
@@ -21,9 +22,9 @@ use Rattle.model.specs.Device.{Request, Attach, Control, Admit, Part, KeyAnswer
 use Rattle.model.specs.Calls.{Call, run, outcomes, only, At, pastOf, WellFormed}
 use Rattle.laws.specs.Judge.{Passed}
 
--- ---- demand 1: every input gets a defined answer; a refusal has its number, writes only its outcome bytes and changes nothing
+-- ---- demand 1: every input gets a defined answer; a refusal has its number, writes only its outcome bytes and changes nothing [14.1]
 
--- the numbers that a call can answer; BADMSG is finish's alone
+-- the numbers that a call can answer; BADMSG is finish's alone [2.7]
 abbrev pub numbersOf : Request → List ℕ
 numbersOf (Attach word) = ok ∷ badGuest ∷ badStore ∷ badFeature ∷ []
 numbersOf (Control r b) = ok ∷ err ∷ notsupp ∷ nospc ∷ badGuest ∷ noOutcome ∷ badStore ∷ []
@@ -70,13 +71,13 @@ pub record Demand1 (w : World) (g : ℕ) (q : Request) : Type 0 where
   -- one from 1 to 5 writes the bytes that 01 names and no other
   pub written : 0 < reply w g q .answer → reply w g q .answer < badGuest → Refusal q (reply w g q .answer) (reply w g q .writable)
 
--- of a refused set-up: the key store stays, and the table is the empty one
+-- of a refused set-up: the key store stays, and the table is the empty one [4.7]
 pub record SetUpRefused (config reserves caps store : List ℕ) : Type 0 where
   pub number : orIn false (setUpAnswer config reserves caps store) (badStore ∷ badShares ∷ badConfig ∷ []) ≡ true
   pub kept : setUp config reserves caps store .store ≡ store
   pub empty : setUp config reserves caps store .table ≡ freshTable (configOf []) [] []
 
--- ---- demand 2: accepted exactly if every check holds, else the first to fail in 01's order answers
+-- ---- demand 2: accepted exactly if every check holds, else the first to fail in 01's order answers [14.2]
 
 -- the answer where every check holds: a finish answers the byte that it writes
 abbrev pub success : Request → ℕ
@@ -103,7 +104,7 @@ Demand2 w g q = Answered (checks w g q) (reply w g q .answer) (success q)
 abbrev pub SetUpAnswered : List ℕ → List ℕ → List ℕ → List ℕ → Type 0
 SetUpAnswered config reserves caps store = Answered (setUpChecks config reserves caps store) (setUpAnswer config reserves caps store) ok
 
--- what a call whose checks all hold gives its caller
+-- what a call whose checks all hold gives its caller [14.4]
 abbrev pub Given : World → ℕ → Request → Outcome → Type 0
 Given w g (Attach word) o = o .writable ≡ []
 -- a create: the next session number, status 0, padding 0; a destroy: status 0
@@ -129,7 +130,7 @@ pub record Gets (w : World) (g : ℕ) (q : Request) : Type 0 where
 abbrev pub named : Table → ℕ → List ℕ → Place
 named t g r = placeAt t (liveAt t g (number r))
 
--- a data request of guest g with readable bytes r and writable bytes b is accepted exactly if
+-- a data request of guest g with readable bytes r and writable bytes b is accepted exactly if [14.3]
 pub record Acceptable (t : Table) (g : ℕ) (r b : List ℕ) : Type 0 where
   -- its guest is attached
   pub guest : g < 8
@@ -154,7 +155,7 @@ pub record Acceptable (t : Table) (g : ℕ) (r b : List ℕ) : Type 0 where
   -- and the algorithm
   pub algorithm : fits (named t g r .session) (lengths r) ≡ true
 
--- ---- tickets K4 and K12: the lengths of an AEAD request, by its source and tag, and by CCM's payload
+-- ---- tickets K4 and K12: the lengths of an AEAD request, by its source and tag, and by CCM's payload [9.8 to 9.10]
 
 -- K12's bound on CCM's payload
 abbrev pub ccmBound : List ℕ → ℕ
@@ -187,7 +188,7 @@ pub record AeadLengths (w : World) (g : ℕ) (r b : List ℕ) : Type 0 where
       ≡ cond (leb (lengths r .result) (lengths r .source) && eqb (lengths r .written) (lengths r .source - lengths r .result)
       && bounded (named (w .table) g r .session .algo) r (lengths r .written)) ok err
 
--- ---- ticket K2: "A clear slot names no owner, whatever its fields hold"
+-- ---- ticket K2: "A clear slot names no owner, whatever its fields hold" [14.13]
 
 -- the slot, its fields cleared where it is clear
 abbrev pub scrubbed : Place → Place
@@ -207,9 +208,9 @@ pub record ClearSlots (w x : World) (cs : List (Call Request)) : Type 0 where
   -- and what is left differs in the fields of clear slots alone
   pub after : Alike (run w cs) (run x cs)
 
--- ---- demand 3: one claim about the whole list of calls
+-- ---- demand 3: one claim about the whole list of calls [14.8 to 14.11]
 
--- each well-formed create of guest g comes while it holds fewer than its reserve
+-- each well-formed create of guest g comes while it holds fewer than its reserve [14.10]
 unfoldable pub Within : ℕ → World → List (Call Request) → Type 0
 Within g w [] = Unit {0}
 Within g w (c ∷ cs) =
@@ -218,29 +219,29 @@ Within g w (c ∷ cs) =
 
 -- of the list cs, from the table and key store w that a set-up left
 pub record Demand3 (w : World) (cs : List (Call Request)) : Type 0 where
-  -- no guest holds more sessions than its cap, and all together hold at most 128
+  -- no guest holds more sessions than its cap, and all together hold at most 128 [14.8]
   pub caps : (g : ℕ) → holds (run w cs .table) g ≤ guestAt (w .table) g .cap
   pub bound : total (run w cs .table) ≤ slotCount
   -- a well-formed create that comes next, from an attached guest that holds fewer than its reserve and has numbers left, is granted;
-  -- 01's term "numbers left", with K12: the last one given to it since its last granted attach is not 18,446,744,073,709,551,615
+  -- 01's term "numbers left", with K12: the last one given to it since its last granted attach is not 18,446,744,073,709,551,615 [14.9, 14.7]
   pub grants : (g : ℕ) (r b : List ℕ)
       → pastOf g w cs .attached ≡ true
       → WellFormed (run w cs) g r b
       → (pastOf g w cs .last ≡ lastNumber → ⊥)
       → holds (run w cs .table) g < guestAt (w .table) g .reserve
       → reply (run w cs) g (Control r b) .answer ≡ ok
-  -- a guest that stays within its reserve gets, call by call, what it gets in the list with only its own calls
+  -- a guest that stays within its reserve gets, call by call, what it gets in the list with only its own calls [14.10]
   pub same : (g : ℕ) → Within g w cs → outcomes g w cs ≡ outcomes g w (only g cs)
-  -- the history rule: what a guest holds is its granted creates less its granted destroys since its last granted attach
+  -- the history rule: what a guest holds is its granted creates less its granted destroys since its last granted attach [14.11]
   pub history : (g : ℕ) → holds (run w cs .table) g + pastOf g w cs .destroys ≡ pastOf g w cs .creates
-  -- each granted create took the next session number, from 1 to at most 18,446,744,073,709,551,615
+  -- each granted create took the next session number, from 1 to at most 18,446,744,073,709,551,615 [6.6]
   pub numbers : (g : ℕ) → pastOf g w cs .last ≡ pastOf g w cs .creates
   pub range : (g : ℕ) → pastOf g w cs .last ≤ lastNumber
   -- and the table knows of each guest what the history says: whether it is attached, and the last number given to it
   pub attached : (g : ℕ) → guestAt (run w cs .table) g .attached ≡ pastOf g w cs .attached
   pub last : (g : ℕ) → guestAt (run w cs .table) g .last ≡ pastOf g w cs .last
 
--- ---- ticket K7: "two histories from the same set-up in which one guest makes the same calls and the others differ at will"
+-- ---- ticket K7: "two histories from the same set-up in which one guest makes the same calls and the others differ at will" [14.12]
 
 -- "a create refused for room", by its cause and not by its number: well-formed, with numbers left, and NOSPC's condition is true
 pub record RefusedForRoom (w : World) (g : ℕ) (r b : List ℕ) : Type 0 where

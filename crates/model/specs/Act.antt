@@ -1,4 +1,4 @@
--- Paper 01, "The session table" and steps 4 and 5 of "Control requests": what a call does to table and key store.
+-- Paper 01, "The session table" and steps 4 and 5 of "Control requests": what a call does to table and key store. [5.3, 8.11, 8.13]
 -- Each request becomes one act.
 use Prim.Native.Nat.{ℕ, suc, _+_, _*_}
 use mathlib.Core.Bool.{Bool, true, cond}
@@ -37,7 +37,7 @@ answerOf (destroy n) = ok
 unfoldable pub withSlot : Table → ℕ → Place → Table
 withSlot t i c = withSlots t (set (slotsOf t) i c)
 
--- the slot freed, its fields cleared, if it names g as owner
+-- the slot freed, its fields cleared, if it names g as owner [5.3]
 abbrev pub released : ℕ → Place → Place
 released g c = cond (owned g c) free c
 
@@ -47,7 +47,7 @@ without t g = withSlots t (map (released g) (slotsOf t))
 unfoldable pub withGuest : Table → ℕ → Guest → Table
 withGuest t g r = record { config = t .config; occupied = t .occupied; slots = t .slots; guests = set (t .guests) g r }
 
--- an attach restarts the guest's numbers, and a granted create takes the next
+-- an attach restarts the guest's numbers, and a granted create takes the next [5.3, 6.6]
 unfoldable pub restarted : Guest → Guest
 restarted r = record { attached = true; reserve = r .reserve; cap = r .cap; last = 0 }
 
@@ -67,7 +67,7 @@ tableAfter t g (destroy n) = withSlot t (liveAt t g n) free
 unfoldable pub withArea : List ℕ → ℕ → List ℕ → List ℕ
 withArea b i a = take (areaSize * i) b ++ (a ++ drop (areaSize * i + areaSize) b)
 
--- the store with the areas of the slots that pass zeroed
+-- the store with the areas of the slots that pass zeroed [7.3]
 unfoldable pub wipe : {A : Type 0} → (A → Bool) → List A → List ℕ → List ℕ
 wipe p [] b = b
 wipe p (c ∷ cs) b = cond (p c) zeros (take areaSize b) ++ wipe p cs (drop areaSize b)

@@ -1,4 +1,4 @@
--- Paper 01, "Demand 3's list of calls": lists of calls, and the history that answers and outcome bytes tell.
+-- Paper 01, "Demand 3's list of calls": lists of calls, and the history that answers and outcome bytes tell. [14.5]
 use Prim.Native.Nat.{ℕ, suc}
 use mathlib.Core.Path.{_≡_}
 use mathlib.Core.Bool.{Bool, true, false, cond}
@@ -17,7 +17,7 @@ pub record Call (Q : Type 0) : Type 0 where
   pub guest : ℕ
   pub request : Q
 
--- ---- "Each call takes the table last returned and, if it uses one, the one key store"
+-- ---- "Each call takes the table last returned and, if it uses one, the one key store" [14.5]
 
 unfoldable pub run : World → List (Call Request) → World
 run w [] = w
@@ -30,7 +30,7 @@ outcomes g w (c ∷ cs) =
     let rest = outcomes g (next w (c .guest) (c .request)) cs in
     cond (eqb (c .guest) g) (reply w (c .guest) (c .request) ∷ rest) rest
 
--- "Its calls are those that name it. The second list keeps only these, in order"
+-- "Its calls are those that name it. The second list keeps only these, in order" [14.6, 14.10]
 unfoldable pub only : {Q : Type 0} → ℕ → List (Call Q) → List (Call Q)
 only g [] = []
 only g (c ∷ cs) = cond (eqb (c .guest) g) (c ∷ only g cs) (only g cs)
@@ -41,10 +41,10 @@ pub record At {Q : Type 0} (g : ℕ) (q : Q) (cs : List (Call Q)) : Type 0 where
   pub after : List (Call Q)
   pub whole : cs ≡ before ++ record { guest = g; request = q } ∷ after
 
--- ---- the history of one guest
+-- ---- the history of one guest [14.6]
 
 pub record Past : Type 0 where
-  -- 01's term "attached": an attach of the guest was granted
+  -- 01's term "attached": an attach of the guest was granted [14.6]
   pub attached : Bool
   -- since its last granted attach: the last session number given to it, 0 before the first; its granted creates and destroys
   pub last : ℕ
@@ -80,6 +80,6 @@ past g p w (c ∷ cs) =
 abbrev pub pastOf : ℕ → World → List (Call Request) → Past
 pastOf g w cs = past g (begun false) w cs
 
--- 01's term "well-formed": readable bytes r and writable bytes b are a create that passes every check before the session number check
+-- 01's term "well-formed": readable bytes r and writable bytes b are a create that passes every check before the session number check [8.14]
 abbrev pub WellFormed : World → ℕ → List ℕ → List ℕ → Type 0
 WellFormed w g r b = (isCreate r ≡ true) × (firstFail (formChecks (setting w) g (view w g) r (length b)) ≡ ok)

@@ -1,4 +1,5 @@
--- Paper 01, "How tight the promises are": for each public call but set-up, its answer, what its caller gets, and the table and key store that it leaves.
+-- Paper 01, "How tight the promises are": for each public call but set-up, its answer, what its caller gets, and the table and key store that it
+-- leaves. [1.5, 15.1]
 use Prim.Native.Nat.{ℕ, suc}
 use mathlib.Core.Bool.{Bool, cond}
 use mathlib.Core.List.{List, []}
@@ -28,7 +29,7 @@ pub data Request : Type 0 where
   -- opcode, verdict and writable bytes
   Finish : ℕ → ℕ → List ℕ → Request
 
--- what an accepted data request names
+-- what an accepted data request names [10.10]
 pub record Job : Type 0 where
   pub guest : ℕ
   pub number : ℕ

@@ -1,4 +1,4 @@
--- Paper 01, "The session table": what a slot, a guest and a key area hold, and which sessions can be.
+-- Paper 01, "The session table": what a slot, a guest and a key area hold, and which sessions can be. [6, 7]
 use Prim.Native.Nat.{ℕ, zero, suc, _+_, _*_, _/_, _%_, _^_}
 use mathlib.Core.Bool.{Bool, true, false, cond, not, _&&_, _||_}
 use mathlib.Core.List.{List, [], _∷_, _++_, map}
@@ -14,7 +14,7 @@ use Rattle.model.specs.declared.Table.{Table}
 use Rattle.model.specs.Bytes.{part, padded}
 use Rattle.model.specs.Algorithm.{cipher, hash, mac, aead, encrypt, decrypt, known, keyOk, resultOk}
 
--- "A table holds 128 slots and eight guest records." "Slot s owns key bytes 128·s to 128·s+127"
+-- "A table holds 128 slots and eight guest records." "Slot s owns key bytes 128·s to 128·s+127" [6.1, 7.1]
 abbrev pub slotCount : ℕ
 slotCount = 128
 
@@ -24,7 +24,7 @@ areaSize = 128
 abbrev pub storeSize : ℕ
 storeSize = 16384
 
--- "Session numbers run per guest from 1" to 18,446,744,073,709,551,615, by K12
+-- "Session numbers run per guest from 1" to 18,446,744,073,709,551,615, by K12 [6.6]
 abbrev pub lastNumber : ℕ
 lastNumber = 18446744073709551615
 
@@ -35,7 +35,7 @@ pub record World : Type 0 where
   pub table : Table
   pub store : List ℕ
 
--- "A slot is free, or holds owner, session number, service, algorithm, direction and lengths"
+-- "A slot is free, or holds owner, session number, service, algorithm, direction and lengths" [6.3]
 pub record Place : Type 0 where
   pub held : Bool
   pub owner : ℕ
@@ -79,7 +79,7 @@ unfoldable pub wordOf : List Bool → ℕ
 wordOf [] = 0
 wordOf (b ∷ l) = one b + 2 * wordOf l
 
--- K2, "the occupied slots as bits": the marks of the 128 slots, the first 64 in `low` and the others in `high`, and back
+-- K2, "the occupied slots as bits": the marks of the 128 slots, the first 64 in `low` and the others in `high`, and back [6.2]
 unfoldable pub marksOf : Occupied → List Bool
 marksOf o = bitsOf 64 (o .low) ++ bitsOf 64 (o .high)
 
@@ -91,7 +91,7 @@ abbrev pub marked : Occupied → ℕ → Bool
 marked o i = getD (marksOf o) i false
 
 -- the slots of a table, which every definition that asks about a slot asks, and the table with others.
--- K2, "A clear slot names no owner, whatever its fields hold": to be held is to be marked
+-- K2, "A clear slot names no owner, whatever its fields hold": to be held is to be marked [6.4]
 unfoldable pub slotsOf : Table → List Place
 slotsOf t = zip placeOf (marksOf (t .occupied)) (t .slots)
 
@@ -106,7 +106,7 @@ placeAt t i = getD (slotsOf t) i free
 unfoldable pub newGuest : ℕ → ℕ → Guest
 newGuest reserve cap = record { attached = false; reserve = reserve; cap = cap; last = 0 }
 
--- the record of guest g; one above 7 has none: it never attached, and has no share
+-- the record of guest g; one above 7 has none: it never attached, and has no share [6.5]
 abbrev pub guestAt : Table → ℕ → Guest
 guestAt t g = getD (t .guests) g (newGuest 0 0)
 
@@ -123,14 +123,14 @@ zeros = replicate areaSize 0
 unfoldable pub keyArea : List ℕ → List ℕ → List ℕ
 keyArea front back = padded 64 front ++ padded 64 back
 
--- the area of a new session: "a cipher or AEAD key starts at 0, a MAC key at 64, all else is zero"
+-- the area of a new session: "a cipher or AEAD key starts at 0, a MAC key at 64, all else is zero" [7.2]
 unfoldable pub areaOf : ℕ → List ℕ → List ℕ
 areaOf service key = cond (eqb service mac) (keyArea [] key) (keyArea key [])
 
 unfoldable pub keyStart : ℕ → ℕ
 keyStart service = cond (eqb service mac) 64 0
 
--- how long a session's key is; a hash has none, whatever its slot says
+-- how long a session's key is; a hash has none, whatever its slot says [7.6]
 unfoldable pub keyLen : Session → ℕ
 keyLen x = cond (eqb (x .service) hash) 0 (x .keylen)
 
@@ -153,18 +153,18 @@ bit mask n = eqb (mask / 2 ^ n % 2) 1
 abbrev pub maskOf : Config → ℕ → ℕ
 maskOf k service = cond (eqb service cipher) (k .ciphers) (cond (eqb service hash) (k .hashes) (cond (eqb service mac) (k .macs) (k .aeads)))
 
--- 01's term "offered", of an algorithm: it stands in the rules and its bit and its service's bit are set
+-- 01's term "offered", of an algorithm: it stands in the rules and its bit and its service's bit are set [4.3]
 unfoldable pub offers : Config → ℕ → ℕ → Bool
 offers k service algo = known service algo && bit (k .services) service && bit (maskOf k service) algo
 
--- cipher and AEAD have a direction
+-- cipher and AEAD have a direction [3.4]
 abbrev pub directed : ℕ → Bool
 directed service = eqb service cipher || eqb service aead
 
 unfoldable pub directionOk : Session → Bool
 directionOk x = not (directed (x .service)) || eqb (x .direction) encrypt || eqb (x .direction) decrypt
 
--- "Cipher and AEAD keys obey max_cipher_key_len too, MAC keys max_auth_key_len"
+-- "Cipher and AEAD keys obey max_cipher_key_len too, MAC keys max_auth_key_len" [9.5]
 abbrev pub keyLimit : Config → ℕ → ℕ
 keyLimit k service = cond (eqb service mac) (k .authkey) (k .cipherkey)
 
@@ -174,6 +174,6 @@ lengthsOk k x =
     && (eqb (x .service) hash || leb (x .keylen) (keyLimit k (x .service)))
     && resultOk (x .service) (x .algo) (x .result)
 
--- the session passes step 4 of a create under this configuration
+-- the session passes step 4 of a create under this configuration [6.8]
 unfoldable pub accepts : Config → Session → Bool
 accepts k x = offers k (x .service) (x .algo) && directionOk x && lengthsOk k x

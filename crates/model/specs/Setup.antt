@@ -1,4 +1,4 @@
--- Paper 01, "Set-up and attach".
+-- Paper 01, "Set-up and attach". [4, 5]
 use Prim.Native.Nat.{ℕ, zero, suc, _+_, _^_}
 use mathlib.Core.Bool.{Bool, true, cond, _&&_}
 use mathlib.Core.List.{List, [], _∷_, map}
@@ -14,9 +14,9 @@ use Rattle.model.specs.Algorithm.{cipher, hash, mac, aead, ciphers, hash
 use Rattle.model.specs.Session.{slotCount, storeSize, World, slotOf, free, newGuest}
 use Rattle.model.specs.View.{sized}
 
--- ---- the configuration: twelve 32-bit fields in document 001's order, then max_size (64 bits)
+-- ---- the configuration: twelve 32-bit fields in document 001's order, then max_size (64 bits) [4.1]
 
--- of max_size, by K12: "max_size may now be up to 1,048,576"
+-- of max_size, by K12: "max_size may now be up to 1,048,576" [4.2]
 abbrev pub sizeLimit : ℕ
 sizeLimit = 1048576
 
@@ -47,7 +47,7 @@ unfoldable pub onlyBits : List ℕ → ℕ → Bool
 onlyBits l mask = eqb (bitAnd mask (bits l)) mask
 
 -- "status 1; max_dataqueues 1 to 8; crypto_services only bits 0 to 3; each mask only bits of the algorithms below; both key limits at most 64;
--- reserved 0"; max_size at most its limit
+-- reserved 0"; max_size at most its limit [4.2]
 unfoldable pub configOk : Config → Bool
 configOk k =
     eqb (k .status) 1
@@ -72,7 +72,7 @@ abbrev pub allTo : ℕ → (ℕ → Bool) → Bool
 allTo zero p = true
 allTo (suc n) p = allTo n p && p n
 
--- 01's terms "reserve" and "cap": "Each guest has a reserve and a cap: reserve ≤ cap ≤ 128 and the reserves sum to at most 128"
+-- 01's terms "reserve" and "cap": "Each guest has a reserve and a cap: reserve ≤ cap ≤ 128 and the reserves sum to at most 128" [4.4]
 unfoldable pub sharesOk : List ℕ → List ℕ → Bool
 sharesOk reserves caps =
     allTo 8 (λ g. leb (getD reserves g 0) (getD caps g 0) && leb (getD caps g 0) slotCount)
@@ -80,7 +80,7 @@ sharesOk reserves caps =
 
 -- ---- set-up
 
--- "Order: 18, 21, 20": by the length of the key store, and the configuration k of len bytes
+-- "Order: 18, 21, 20": by the length of the key store, and the configuration k of len bytes [4.5]
 abbrev pub setUpOrder : ℕ → ℕ → Config → List ℕ → List ℕ → List Check
 setUpOrder store len k reserves caps = (sized store, badStore) ∷ (eqb len 56 && configOk k, badConfig) ∷ (sharesOk reserves caps, badShares) ∷ []
 
@@ -90,7 +90,7 @@ setUpChecks config reserves caps store = setUpOrder (length store) (length confi
 unfoldable pub setUpAnswer : List ℕ → List ℕ → List ℕ → List ℕ → ℕ
 setUpAnswer config reserves caps store = firstFail (setUpChecks config reserves caps store)
 
--- "all 128 slots are free, no guest is attached"
+-- "all 128 slots are free, no guest is attached" [4.6]
 unfoldable pub freshTable : Config → List ℕ → List ℕ → Table
 freshTable k reserves caps = record {
   config = k;
@@ -99,14 +99,14 @@ freshTable k reserves caps = record {
   guests = map (λ g. newGuest (getD reserves g 0) (getD caps g 0)) (0 ∷ 1 ∷ 2 ∷ 3 ∷ 4 ∷ 5 ∷ 6 ∷ 7 ∷ []);
 }
 
--- the table and store that a set-up leaves; a refused one keeps the store, and in its table every reserve and cap is 0 and nothing is offered
+-- the table and store that a set-up leaves; a refused one keeps the store, and in its table every reserve and cap is 0 and nothing is offered [4.6, 4.7]
 unfoldable pub setUp : List ℕ → List ℕ → List ℕ → List ℕ → World
 setUp config reserves caps store =
     cond (granted (setUpAnswer config reserves caps store))
     (record { table = freshTable (configOf config) reserves caps; store = replicate storeSize 0 })
     (record { table = freshTable (configOf []) [] []; store = store })
 
--- ---- attach: "Only the value 1 (revision 1) is taken, else 19", "Order: 18, guest above 7 (16), 19; else 0"
+-- ---- attach: "Only the value 1 (revision 1) is taken, else 19", "Order: 18, guest above 7 (16), 19; else 0" [5.1, 5.2]
 
 abbrev pub attachChecks : ℕ → ℕ → ℕ → List Check
 attachChecks store g word = (sized store, badStore) ∷ (ltb g 8, badGuest) ∷ (eqb word 1, badFeature) ∷ []

@@ -1,4 +1,4 @@
--- Paper 01, "The session table": whose slot is whose, which sessions are live, room for one more, and all that a guest's answers depend on.
+-- Paper 01, "The session table": whose slot is whose, which sessions are live, room for one more, and all that a guest's answers depend on. [6]
 use Prim.Native.Nat.{ℕ, _+_, _-_}
 use mathlib.Core.Bool.{Bool, true, false, cond, not, _&&_, _||_}
 use mathlib.Core.Option.{Option, none, some}
@@ -23,27 +23,27 @@ abbrev pub owned : ℕ → Place → Bool
 owned g c = c .held && eqb (c .owner) g
 
 -- "A held slot matches no number if its owner is above 7 or not attached, its number is 0 or not yet given to that owner, its service is not
--- offered, or its other fields fail step 4": of number n, the owner with record r, and the configuration k
+-- offered, or its other fields fail step 4": of number n, the owner with record r, and the configuration k [6.8]
 abbrev pub given : Config → Guest → ℕ → Place → Bool
 given k r n c = r .attached && ltb 0 n && leb n (r .last) && accepts k (c .session)
 
--- 01's term "live": the slot matches session number n of guest g, its owner
+-- 01's term "live": the slot matches session number n of guest g, its owner [6.8]
 abbrev pub live : Table → ℕ → ℕ → Place → Bool
 live t g n c = owned g c && eqb (c .number) n && given (t .config) (guestAt t g) n c
 
 -- ---- places; the number of slots where there is none
 
--- "the lowest-numbered free slot"
+-- "the lowest-numbered free slot" [6.11]
 abbrev pub freeAt : Table → ℕ
 freeAt t = index isFree (slotsOf t)
 
--- "Of two that match, the lower slot counts"
+-- "Of two that match, the lower slot counts" [6.9]
 abbrev pub liveAt : Table → ℕ → ℕ → ℕ
 liveAt t g n = index (live t g n) (slotsOf t)
 
 -- ---- room
 
--- 01's term "holds": counted from the slots naming the guest as owner, matching or not
+-- 01's term "holds": counted from the slots naming the guest as owner, matching or not [6.7]
 abbrev pub holds : Table → ℕ → ℕ
 holds t g = count (owned g) (slotsOf t)
 
@@ -51,7 +51,7 @@ holds t g = count (owned g) (slotsOf t)
 abbrev pub total : Table → ℕ
 total t = count isHeld (slotsOf t)
 
--- "reserve minus held, not below 0, attached or not"
+-- "reserve minus held, not below 0, attached or not" [6.10]
 abbrev pub unmet : Table → ℕ → ℕ
 unmet t g = guestAt t g .reserve - holds t g
 
@@ -61,7 +61,7 @@ owed t g = sumTo 8 (except g (unmet t))
 
 -- "A create is NOSPC exactly if the guest holds its cap; or it holds at least its reserve, and all held slots plus the other guests' unmet
 -- reserves reach 128; or no slot is free": of a guest with record r that holds `held`, where all hold `all`, the others are owed `others` and
--- `spare` slots are free
+-- `spare` slots are free [6.10]
 unfoldable pub noRoom : Guest → ℕ → ℕ → ℕ → ℕ → Bool
 noRoom r held all others spare = leb (r .cap) held || leb (r .reserve) held && leb slotCount (all + others) || eqb spare 0
 
@@ -106,10 +106,10 @@ setting w = record { config = w .table .config; store = length (w .store) }
 
 -- ---- tests that many calls share
 
--- the key store has its 16,384 bytes
+-- the key store has its 16,384 bytes [7.1]
 abbrev pub sized : ℕ → Bool
 sized n = eqb n storeSize
 
--- guest g, whose record is r, is at most 7 and attached
+-- guest g, whose record is r, is at most 7 and attached [6.5]
 unfoldable pub present : ℕ → Guest → Bool
 present g r = ltb g 8 && r .attached

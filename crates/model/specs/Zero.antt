@@ -1,4 +1,4 @@
--- Paper 01, "The session table": the zero rule.
+-- Paper 01, "The session table": the zero rule. [7.4]
 use Prim.Native.Nat.{ℕ, _+_, _/_, _%_, _<_}
 use mathlib.Core.Path.{_≡_}
 use mathlib.Core.Bool.{Bool, false, _&&_}
@@ -17,6 +17,6 @@ keyByte x j = leb (keyStart (x .service)) j && ltb j (keyStart (x .service) + ke
 abbrev pub liveByte : Table → Place → ℕ → Bool
 liveByte t c j = live t (c .owner) (c .number) c && keyByte (c .session) j
 
--- 01's term "zero rule": every store byte of no live session's key is zero
+-- 01's term "zero rule": every store byte of no live session's key is zero [7.4]
 abbrev pub ZeroRule : World → Type 0
 ZeroRule w = (i : ℕ) → i < length (w .store) → liveByte (w .table) (placeAt (w .table) (i / areaSize)) (i % areaSize) ≡ false → getD (w .store) i 0 ≡ 0

@@ -1,4 +1,4 @@
--- Paper 01, "Replay": "`done`, the records and the answers 0, from a running tally that is changed in place".
+-- Paper 01, "Replay": "`done`, the records and the answers 0, from a running tally that is changed in place". [13.5, 13.8]
 use Prim.Native.Nat.{ℕ, _+_}
 use mathlib.Core.Bool.{cond}
 use mathlib.Core.List.{List}

@@ -1,4 +1,4 @@
--- Paper 01, "Replay": "Else one line per record, index from 0 and answer, then `done`, the records and the answers 0". As ASCII bytes.
+-- Paper 01, "Replay": "Else one line per record, index from 0 and answer, then `done`, the records and the answers 0". As ASCII bytes. [13.5]
 use Prim.Native.Nat.{ℕ, zero, suc, _+_, _/_, _%_, _≤_}
 use mathlib.Core.Path.{_≡_}
 use mathlib.Core.Bool.{cond}
@@ -20,7 +20,7 @@ decimal n = digits (suc n) n
 abbrev pub line : ℕ → ℕ → List ℕ
 line a b = decimal a ++ (32 ∷ (decimal b ++ (10 ∷ [])))
 
--- "one line per record, index from 0 and answer": from i on
+-- "one line per record, index from 0 and answer": from i on [13.5]
 unfoldable pub linesFrom : ℕ → List ℕ → List ℕ
 linesFrom i [] = []
 linesFrom i (a ∷ answers) = line i a ++ linesFrom (suc i) answers
@@ -29,7 +29,7 @@ linesFrom i (a ∷ answers) = line i a ++ linesFrom (suc i) answers
 abbrev pub done : List ℕ
 done = 100 ∷ 111 ∷ 110 ∷ 101 ∷ 32 ∷ []
 
--- all lines: "then `done`, the records and the answers 0"
+-- all lines: "then `done`, the records and the answers 0" [13.5]
 unfoldable pub text : List ℕ → ℕ → List ℕ
 text answers granted = linesFrom 0 answers ++ (done ++ line (length answers) granted)
 

@@ -1,8 +1,8 @@
--- `host::vcrypto_key` meets its contract.
+-- `vcrypto::vcrypto_key` meets its contract.
 use borrow.Author.Needs.{needs}
-use Rattle.host.specs.SpanLaws.{key-located}
-use Rattle.host.proofs.vcrypto_key.Statement.{statement}
-use Rattle.host.proofs.vcrypto_key.Tie as tie
+use Rattle.vcrypto.specs.SpanLaws.{key-located}
+use Rattle.vcrypto.proofs.vcrypto_key.Statement.{statement}
+use Rattle.vcrypto.proofs.vcrypto_key.Tie as tie
 
 returns : tie.Need-returns
 returns c =

@@ -1,8 +1,8 @@
--- `host::from` meets its contract.
+-- `vcrypto::from` meets its contract.
 use Rattle.laws.specs.Chain.{choices}
-use Rattle.host.specs.Span.{spanOf}
-use Rattle.host.proofs.from.Statement.{statement}
-use Rattle.host.proofs.from.Tie as tie
+use Rattle.vcrypto.specs.Span.{spanOf}
+use Rattle.vcrypto.proofs.from.Statement.{statement}
+use Rattle.vcrypto.proofs.from.Tie as tie
 
 returns : tie.Need-returns
 unfolding spanOf

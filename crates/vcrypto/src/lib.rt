@@ -3,7 +3,7 @@ ghost use mathlib.Core.Path.{_≡_};
 ghost use Rattle.model.specs.declared.Field.the-variants.{Iv, Source, Aad};
 ghost use Rattle.model.specs.Setup.{setUpAnswer, setUp};
 ghost use Rattle.model.specs.Device.{Attach, Control, Admit, Part, KeyAnswer, Key, Finish, reply, next, world, bare};
-ghost use Rattle.host.specs.Span.{Located, spanOf};
+ghost use Rattle.vcrypto.specs.Span.{Located, spanOf};
 use device::Admission;
 use device::Reply;
 use model::Field;

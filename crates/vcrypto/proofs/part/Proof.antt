@@ -1,8 +1,8 @@
--- `host::part` meets its contract: each call of the device is that of its field.
+-- `vcrypto::part` meets its contract: each call of the device is that of its field.
 use borrow.Author.Needs.{needs}
-use Rattle.host.specs.SpanLaws.{same-field}
-use Rattle.host.proofs.part.Statement.{statement}
-use Rattle.host.proofs.part.Tie as tie
+use Rattle.vcrypto.specs.SpanLaws.{same-field}
+use Rattle.vcrypto.proofs.part.Statement.{statement}
+use Rattle.vcrypto.proofs.part.Tie as tie
 
 pub part-spec : {M : Type 1} → statement M
 part-spec =

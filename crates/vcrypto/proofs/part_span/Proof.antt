@@ -1,8 +1,8 @@
--- `host::part_span` meets its contract.
+-- `vcrypto::part_span` meets its contract.
 use borrow.Author.Needs.{needs}
-use Rattle.host.specs.SpanLaws.{field-located}
-use Rattle.host.proofs.part_span.Statement.{statement}
-use Rattle.host.proofs.part_span.Tie as tie
+use Rattle.vcrypto.specs.SpanLaws.{field-located}
+use Rattle.vcrypto.proofs.part_span.Statement.{statement}
+use Rattle.vcrypto.proofs.part_span.Tie as tie
 
 pub part-span-spec : {M : Type 1} → statement M
 part-span-spec =

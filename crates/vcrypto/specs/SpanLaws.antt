@@ -20,7 +20,7 @@ use Rattle.model.specs.Device.{Part, Key, outcome, checks, reply, world, bare}
 use Rattle.wire.specs.Read.{part-again, part-inside}
 use Rattle.keystore.specs.Stored.{keyAt}
 use Rattle.keystore.specs.StoredLaws.{found-key}
-use Rattle.host.specs.Span.{Located, spanOf}
+use Rattle.vcrypto.specs.Span.{Located, spanOf}
 
 -- ---- the span of a part that is handed on, or of no bytes where a call is refused
 
