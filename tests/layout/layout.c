@@ -1,5 +1,5 @@
 /* The offsets, sizes and numbers of the definitions and of vcrypto.h against those of the kernel's own header. ours.h is made from crates/model/specs
- * by ours.awk.
+ * by ours.awk, page.h from docs/RULES.md by page.awk.
  * The kernel's header has the requests of devices without revision 1: each service's structure is padded to 56 or 48 bytes, so the unpadded ones are
  * compared. Where its fields differ from document 001's, a comment says how. */
 #include <linux/virtio_crypto.h>
@@ -7,6 +7,7 @@
 #include <stdio.h>
 
 #include "ours.h"
+#include "page.h"
 #include "vcrypto.h"
 
 #define COUNT(...) (sizeof((size_t[]){__VA_ARGS__}) / sizeof(size_t))
@@ -170,6 +171,77 @@ static void data_requests(void)
     CONSTANT(DATA_OUTCOME, sizeof(struct virtio_crypto_inhdr));
 }
 
+/* A field of a table of docs/RULES.md, by its rule. */
+#define PAGE(rule, field, base, type, theirs)                                                              \
+    do {                                                                                                   \
+        same("rule " #rule ", offset of " #field, AT_##rule##_##field, (base) + offsetof(struct type, theirs)); \
+        same("rule " #rule ", width of " #field, WIDTH_##rule##_##field, SIZE_OF(type, theirs));           \
+    } while (0)
+
+static void page_configuration(void)
+{
+    PAGE(4_1, status, 0, virtio_crypto_config, status);
+    PAGE(4_1, max_dataqueues, 0, virtio_crypto_config, max_dataqueues);
+    PAGE(4_1, crypto_services, 0, virtio_crypto_config, crypto_services);
+    PAGE(4_1, cipher_algo_l, 0, virtio_crypto_config, cipher_algo_l);
+    PAGE(4_1, cipher_algo_h, 0, virtio_crypto_config, cipher_algo_h);
+    PAGE(4_1, hash_algo, 0, virtio_crypto_config, hash_algo);
+    PAGE(4_1, mac_algo_l, 0, virtio_crypto_config, mac_algo_l);
+    PAGE(4_1, mac_algo_h, 0, virtio_crypto_config, mac_algo_h);
+    PAGE(4_1, aead_algo, 0, virtio_crypto_config, aead_algo);
+    PAGE(4_1, max_cipher_key_len, 0, virtio_crypto_config, max_cipher_key_len);
+    PAGE(4_1, max_auth_key_len, 0, virtio_crypto_config, max_auth_key_len);
+    PAGE(4_1, reserved, 0, virtio_crypto_config, akcipher_algo);
+    PAGE(4_1, max_size, 0, virtio_crypto_config, max_size);
+}
+
+static void page_control(void)
+{
+    const size_t part = offsetof(struct virtio_crypto_op_ctrl_req, u);
+    PAGE(8_2, opcode, 0, virtio_crypto_ctrl_header, opcode);
+    PAGE(8_2, algo, 0, virtio_crypto_ctrl_header, algo);
+    PAGE(8_2, flag, 0, virtio_crypto_ctrl_header, flag);
+    PAGE(8_2, reserved, 0, virtio_crypto_ctrl_header, queue_id);
+    PAGE(8_3, algo, part, virtio_crypto_sym_create_session_req, u.cipher.para.algo);
+    PAGE(8_3, key_len, part, virtio_crypto_sym_create_session_req, u.cipher.para.keylen);
+    PAGE(8_3, op, part, virtio_crypto_sym_create_session_req, u.cipher.para.op);
+    PAGE(8_3, op_type, part, virtio_crypto_sym_create_session_req, op_type);
+    PAGE(8_4, algo, part, virtio_crypto_hash_session_para, algo);
+    PAGE(8_4, hash_result_len, part, virtio_crypto_hash_session_para, hash_result_len);
+    PAGE(8_5, algo, part, virtio_crypto_mac_session_para, algo);
+    PAGE(8_5, hash_result_len, part, virtio_crypto_mac_session_para, hash_result_len);
+    PAGE(8_5, auth_key_len, part, virtio_crypto_mac_session_para, auth_key_len);
+    PAGE(8_6, algo, part, virtio_crypto_aead_session_para, algo);
+    PAGE(8_6, key_len, part, virtio_crypto_aead_session_para, key_len);
+    PAGE(8_6, tag_len, part, virtio_crypto_aead_session_para, hash_result_len);
+    PAGE(8_6, aad_len, part, virtio_crypto_aead_session_para, aad_len);
+    PAGE(8_6, op, part, virtio_crypto_aead_session_para, op);
+    PAGE(8_7, session_id, part, virtio_crypto_destroy_session_req, session_id);
+}
+
+static void page_data(void)
+{
+    const size_t part = offsetof(struct virtio_crypto_op_data_req, u);
+    PAGE(10_2, opcode, 0, virtio_crypto_op_header, opcode);
+    PAGE(10_2, algo, 0, virtio_crypto_op_header, algo);
+    PAGE(10_2, session_id, 0, virtio_crypto_op_header, session_id);
+    PAGE(10_2, flag, 0, virtio_crypto_op_header, flag);
+    PAGE(10_3, iv_len, part, virtio_crypto_sym_data_req, u.cipher.para.iv_len);
+    PAGE(10_3, src_data_len, part, virtio_crypto_sym_data_req, u.cipher.para.src_data_len);
+    PAGE(10_3, dst_data_len, part, virtio_crypto_sym_data_req, u.cipher.para.dst_data_len);
+    PAGE(10_3, op_type, part, virtio_crypto_sym_data_req, op_type);
+    PAGE(10_4, src_data_len, part, virtio_crypto_hash_para, src_data_len);
+    PAGE(10_4, hash_result_len, part, virtio_crypto_hash_para, hash_result_len);
+    PAGE(10_5, iv_len, part, virtio_crypto_aead_para, iv_len);
+    PAGE(10_5, aad_len, part, virtio_crypto_aead_para, aad_len);
+    PAGE(10_5, src_data_len, part, virtio_crypto_aead_para, src_data_len);
+    PAGE(10_5, dst_data_len, part, virtio_crypto_aead_para, dst_data_len);
+    /* behind the kernel's structure */
+    same("rule 10_5, tag_len", AT_10_5_tag_len, part + sizeof(struct virtio_crypto_aead_para));
+    same("rule 10_5, reserved", AT_10_5_reserved, part + sizeof(struct virtio_crypto_aead_para) + WIDTH_10_5_tag_len);
+    same("rule 10_5, its end", AT_10_5_reserved + WIDTH_10_5_reserved, VCRYPTO_DATA_HEADER + VCRYPTO_AEAD_DATA_PART);
+}
+
 static void numbers(void)
 {
     LIST(cipher, VIRTIO_CRYPTO_SERVICE_CIPHER);
@@ -245,6 +317,9 @@ int main(void)
     configuration();
     control_requests();
     data_requests();
+    page_configuration();
+    page_control();
+    page_data();
     numbers();
     return wrong;
 }
