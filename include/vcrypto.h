@@ -1,7 +1,7 @@
 /* libvcrypto: the device side of a virtio crypto device for eight guests, as ten calls.
  *
  * A host takes requests from its guests' queues, calls the library with their bytes, has its card do what was accepted, and reports how that
- * went. docs/RULES.md has the whole of the rules, and the numbers in brackets below are its rules. An example of each service stands in examples/.
+ * went. docs/RULES.md has the whole of the rules, and the numbers in brackets below are its rules. examples/ has hosts for cipher, MAC and AEAD.
  *
  * Every call answers for any bytes, any lengths and any table. What is left to the caller:
  *   - each pointer has as many bytes as its length says; a null pointer is fine where the length is 0;

@@ -133,7 +133,7 @@ unfoldable pub decryptedOk : Lengths → Bool
 decryptedOk n = leb (n .result) (n .source) && eqb (n .written) (n .source - n .result)
 
 -- what is written before the status: of a cipher "Destination equals source"; a hash or MAC writes its result; of an AEAD that encrypts "Destination
--- equals source plus tag" [9.7, 9.8]
+-- equals source plus tag" [9.7 to 9.9]
 unfoldable pub writtenOk : ℕ → ℕ → Lengths → Bool
 writtenOk service direction n =
     eqb service cipher && eqb (n .written) (n .source)

@@ -1,4 +1,4 @@
--- Paper 01, "Demand 3's list of calls": lists of calls, and the history that answers and outcome bytes tell. [14.5]
+-- Paper 01, "Demand 3's list of calls": lists of calls, and the history that answers and outcome bytes tell. [14.5, 14.6]
 use Prim.Native.Nat.{ℕ, suc}
 use mathlib.Core.Path.{_≡_}
 use mathlib.Core.Bool.{Bool, true, false, cond}

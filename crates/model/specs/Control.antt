@@ -105,7 +105,7 @@ formChecks k g v r room =
     ++ headChecks (k .config) (opcode r) (length r) room
     ++ sessionChecks (k .config) (plainCreate r) (le32 r 4) (asked r) (length r)
 
--- 01's term "numbers left": the last one given is not the last of all [6.6]
+-- 01's term "numbers left": the last one given is not the last of all [6.6, 14.7]
 abbrev pub numbersLeft : View → Bool
 numbersLeft v = ltb (v .guest .last) lastNumber
 

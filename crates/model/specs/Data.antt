@@ -1,5 +1,5 @@
 -- Paper 01, "Data requests", with finish, and key fetch. Header 24 bytes: opcode 0, algo 4, session_id 8, flag 16, padding 20; then the
--- fixed part; then IV, source and AAD. The header's algo and padding are ignored. [10]
+-- fixed part; then IV, source and AAD. The header's algo and padding are ignored. [7, 10, 11]
 use Prim.Native.Nat.{ℕ, _+_, _%_}
 use mathlib.Core.Bool.{Bool, false, cond, not, _&&_, _||_}
 use mathlib.Core.Option.{Option, none, some}
@@ -31,7 +31,7 @@ flag r = le32 r 16
 unfoldable pub operationOk : Config → ℕ → Bool
 operationOk k op = orIn false op (0 ∷ 1 ∷ 256 ∷ 512 ∷ 768 ∷ 769 ∷ []) && bit (k .services) (serviceOf op)
 
--- a cipher's or AEAD's direction: 1 encrypt, 2 decrypt [3.4]
+-- a cipher's or AEAD's direction: 1 encrypt, 2 decrypt [3.3]
 abbrev pub directionOf : ℕ → ℕ
 directionOf op = op % 256 + 1
 

@@ -80,7 +80,7 @@ sharesOk reserves caps =
 
 -- ---- set-up
 
--- "Order: 18, 21, 20": by the length of the key store, and the configuration k of len bytes [4.5]
+-- "Order: 18, 21, 20": by the length of the key store, and the configuration k of len bytes [4.2, 4.5]
 abbrev pub setUpOrder : ℕ → ℕ → Config → List ℕ → List ℕ → List Check
 setUpOrder store len k reserves caps = (sized store, badStore) ∷ (eqb len 56 && configOk k, badConfig) ∷ (sharesOk reserves caps, badShares) ∷ []
 
