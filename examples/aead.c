@@ -1,11 +1,9 @@
-/* A host for the AEAD service: guest 1 has a text encrypted and decrypted again by ChaCha20-Poly1305, then a text with a wrong tag.
- * Key, IV, AAD, text and result are those of RFC 8439, section 2.8.2. README.md says how to build it. */
-#include "card.h"
-#include "host.h"
+/* A guest of the AEAD service: guest 1 has a text encrypted and decrypted again by ChaCha20-Poly1305, then a text with a wrong tag.
+ * Key, IV, AAD, text and result are those of RFC 8439, section 2.8.2. serve.c is the host. README.md says how to build it. */
+#include "guest.h"
+#include "serve.h"
 
 enum { GUEST = 1, KEY = 32, IV = 12, AAD = 12, TAG = 16, TEXT = 114 };
-
-/* ---- what the guest writes */
 
 /* Header (16 bytes), fixed part (24), key. */
 static size_t put_create(uint8_t *readable, uint32_t direction, const uint8_t key[KEY])
@@ -43,39 +41,20 @@ static size_t put_data(uint8_t *readable, uint32_t opcode, uint64_t session, con
     return VCRYPTO_DATA_HEADER + VCRYPTO_AEAD_DATA_PART + IV + source_len + AAD;
 }
 
-/* ---- what the host does with a data request */
-
-static uint8_t serve_data(struct host *h, uint8_t guest, const uint8_t *readable, size_t readable_len, uint8_t *writable, size_t writable_len)
-{
-    struct vcrypto_admission job = vcrypto_admit(h->table, guest, readable, readable_len, writable, writable_len);
-    if (job.answer != VCRYPTO_OK)
-        return job.answer;
-
-    const struct vcrypto_slot *session = find_session(&h->table, guest, job.number);
-    struct vcrypto_span iv = vcrypto_iv(h->table, guest, readable, readable_len, writable, writable_len);
-    struct vcrypto_span source = vcrypto_source(h->table, guest, readable, readable_len, writable, writable_len);
-    struct vcrypto_span aad = vcrypto_aad(h->table, guest, readable, readable_len, writable, writable_len);
-    struct vcrypto_span key = vcrypto_key(h->table, guest, job.number, h->store, sizeof h->store);
-    const uint8_t *k = h->store + key.start, *v = readable + iv.start, *in = readable + source.start, *a = readable + aad.start;
-
-    uint8_t verdict = VCRYPTO_ERR;
-    if (session->algo == VCRYPTO_CHACHA20_POLY1305 && job.opcode == VCRYPTO_AEAD_ENCRYPT) {
-        card_seal(k, v, a, aad.size, in, source.size, writable, writable + source.size); /* the tag goes behind the ciphertext */
-        verdict = VCRYPTO_OK;
-    } else if (session->algo == VCRYPTO_CHACHA20_POLY1305) {
-        size_t text = source.size - session->result; /* the tag is the end of the source */
-        verdict = card_open(k, v, a, aad.size, in, text, in + text, writable) ? VCRYPTO_OK : VCRYPTO_BADMSG;
-    }
-    return vcrypto_finish(h->table, guest, job.opcode, verdict, writable, writable_len);
-}
-
-/* ---- one run */
+static const struct vcrypto_config config = {
+    .status = VCRYPTO_READY,
+    .queues = 1,
+    .services = 1u << VCRYPTO_AEAD,
+    .aeads = 1u << VCRYPTO_CHACHA20_POLY1305,
+    .cipherkey = VCRYPTO_KEY_LIMIT,
+    .size = 65536,
+};
 
 static struct host host;
 
 static uint64_t create(uint32_t direction, const uint8_t key[KEY])
 {
-    uint8_t request[VCRYPTO_CONTROL_HEADER + VCRYPTO_AEAD_CREATE_PART + KEY], created[VCRYPTO_CREATE_OUTCOME];
+    uint8_t request[VCRYPTO_CONTROL_HEADER + VCRYPTO_AEAD_CREATE_PART + KEY], created[VCRYPTO_CREATE_OUTCOME] = {0};
     size_t size = put_create(request, direction, key);
     expect("create:", host_control(&host, GUEST, request, size, created, sizeof created), VCRYPTO_OK);
     return get_le64(created);
@@ -87,33 +66,34 @@ int main(void)
     static const uint8_t aad[AAD] = {0x50, 0x51, 0x52, 0x53, 0xc0, 0xc1, 0xc2, 0xc3, 0xc4, 0xc5, 0xc6, 0xc7};
     static const char text[TEXT + 1] = "Ladies and Gentlemen of the class of '99: "
                                        "If I could offer you only one tip for the future, sunscreen would be it.";
-    uint8_t key[KEY], request[256], sealed[TEXT + TAG + VCRYPTO_DATA_OUTCOME], opened[TEXT + VCRYPTO_DATA_OUTCOME];
+    uint8_t key[KEY], request[VCRYPTO_DATA_HEADER + VCRYPTO_AEAD_DATA_PART + IV + TEXT + TAG + AAD];
+    uint8_t sealed[TEXT + TAG + VCRYPTO_DATA_OUTCOME] = {0}, opened[TEXT + VCRYPTO_DATA_OUTCOME] = {0};
     for (int i = 0; i < KEY; i++)
         key[i] = (uint8_t)(0x80 + i);
 
-    expect("set-up:", host_start(&host, VCRYPTO_AEAD, 32, VCRYPTO_CHACHA20_POLY1305), VCRYPTO_OK); /* 32: aead_algo */
+    expect("set-up:", host_start(&host, &config), VCRYPTO_OK);
     expect("attach:", host_attach(&host, GUEST), VCRYPTO_OK);
-    uint64_t sealing = create(VCRYPTO_ENCRYPT, key), opening = create(VCRYPTO_DECRYPT, key);
+    uint64_t sealing = create(VCRYPTO_DIR_ENCRYPT, key), opening = create(VCRYPTO_DIR_DECRYPT, key);
 
     size_t size = put_data(request, VCRYPTO_AEAD_ENCRYPT, sealing, iv, (const uint8_t *)text, TEXT, aad);
-    expect("encryption:", serve_data(&host, GUEST, request, size, sealed, sizeof sealed), VCRYPTO_OK);
+    expect("encryption:", host_data(&host, GUEST, request, size, sealed, sizeof sealed), VCRYPTO_OK);
     expect("its status byte:", sealed[TEXT + TAG], VCRYPTO_OK);
     show("ciphertext:", sealed, TEXT);
     show("tag:", sealed + TEXT, TAG);
 
     size = put_data(request, VCRYPTO_AEAD_DECRYPT, opening, iv, sealed, TEXT + TAG, aad);
-    expect("decryption:", serve_data(&host, GUEST, request, size, opened, sizeof opened), VCRYPTO_OK);
+    expect("decryption:", host_data(&host, GUEST, request, size, opened, sizeof opened), VCRYPTO_OK);
     expect("its status byte:", opened[TEXT], VCRYPTO_OK);
     printf("text: %.*s\n", TEXT, (const char *)opened);
 
     sealed[TEXT] ^= 1; /* a bit of the tag */
-    memset(opened, 0, sizeof opened);
     size = put_data(request, VCRYPTO_AEAD_DECRYPT, opening, iv, sealed, TEXT + TAG, aad);
-    expect("a wrong tag:", serve_data(&host, GUEST, request, size, opened, sizeof opened), VCRYPTO_BADMSG);
+    expect("a wrong tag:", host_data(&host, GUEST, request, size, opened, sizeof opened), VCRYPTO_BADMSG);
     expect("its status byte:", opened[TEXT], VCRYPTO_BADMSG);
+    expect("bytes before it that are not zero:", count_nonzero(opened, TEXT), 0);
 
     /* A session serves its own direction alone. */
     size = put_data(request, VCRYPTO_AEAD_DECRYPT, sealing, iv, sealed, TEXT + TAG, aad);
-    expect("decryption with the other session:", serve_data(&host, GUEST, request, size, opened, sizeof opened), VCRYPTO_INVSESS);
+    expect("decryption with the other session:", host_data(&host, GUEST, request, size, opened, sizeof opened), VCRYPTO_INVSESS);
     return wrong;
 }

@@ -1,4 +1,4 @@
-/* See card.h. It is compared with the test vectors of RFC 4231 and RFC 8439 by the examples that use it. */
+/* See card.h. The examples compare it with published test vectors. */
 #include "card.h"
 
 #include <string.h>
@@ -17,6 +17,84 @@ static void put_low_first(uint8_t *at, uint64_t x, int bytes)
 {
     for (int i = 0; i < bytes; i++)
         at[i] = (uint8_t)(x >> 8 * i);
+}
+
+/* ---- AES, FIPS 197, encryption alone */
+
+/* The product modulo x^8 + x^4 + x^3 + x + 1. */
+static uint8_t times(uint8_t a, uint8_t b)
+{
+    uint8_t product = 0;
+    for (; b; b >>= 1) {
+        if (b & 1)
+            product ^= a;
+        a = (uint8_t)(a << 1) ^ (a & 0x80 ? 0x1b : 0);
+    }
+    return product;
+}
+
+/* The inverse, which is the 254th power, and the affine map. */
+static uint8_t substituted(uint8_t x)
+{
+    uint8_t inverse = 1, square = x, out = 0x63;
+    for (int power = 254; power; power >>= 1) {
+        if (power & 1)
+            inverse = times(inverse, square);
+        square = times(square, square);
+    }
+    for (int i = 0; i < 5; i++)
+        out ^= (uint8_t)(inverse << i | inverse >> (8 - i));
+    return out;
+}
+
+/* Writes the round keys, 16 bytes each, and gives the number of rounds. */
+static int aes_schedule(const uint8_t *key, size_t key_len, uint8_t schedule[15 * 16])
+{
+    int rounds = (int)key_len / 4 + 6;
+    uint8_t round_constant = 1;
+    memcpy(schedule, key, key_len);
+    for (size_t i = key_len; i < (size_t)(rounds + 1) * 16; i += 4) {
+        uint8_t *word = schedule + i, last[4];
+        memcpy(last, word - 4, 4);
+        if (i % key_len == 0) {
+            for (int j = 0; j < 4; j++)
+                last[j] = substituted(word[(j + 1) % 4 - 4]);
+            last[0] ^= round_constant;
+            round_constant = times(round_constant, 2);
+        } else if (key_len == 32 && i % 32 == 16) {
+            for (int j = 0; j < 4; j++)
+                last[j] = substituted(last[j]);
+        }
+        for (int j = 0; j < 4; j++)
+            word[j] = schedule[i - key_len + (size_t)j] ^ last[j];
+    }
+    return rounds;
+}
+
+static void aes_round(uint8_t block[16], const uint8_t *round_key, bool mixes)
+{
+    uint8_t moved[16];
+    for (int i = 0; i < 16; i++) /* bytes substituted and rows shifted: byte i of column c comes from column c + i */
+        moved[i] = substituted(block[(i + i % 4 * 4) % 16]);
+    for (int i = 0; i < 16; i++) {
+        const uint8_t *column = moved + i / 4 * 4;
+        uint8_t a = column[i % 4], b = column[(i + 1) % 4], c = column[(i + 2) % 4], d = column[(i + 3) % 4];
+        block[i] = round_key[i] ^ (mixes ? times(a, 2) ^ times(b, 3) ^ c ^ d : a);
+    }
+}
+
+void card_aes_cbc(const uint8_t *key, size_t key_len, const uint8_t *iv, const uint8_t *in, size_t len, uint8_t *out)
+{
+    uint8_t schedule[15 * 16], block[16];
+    int rounds = aes_schedule(key, key_len, schedule);
+    memcpy(block, iv, 16);
+    for (size_t at = 0; at < len; at += 16) {
+        for (int i = 0; i < 16; i++)
+            block[i] ^= in[at + (size_t)i] ^ schedule[i];
+        for (int round = 1; round <= rounds; round++)
+            aes_round(block, schedule + 16 * round, round < rounds);
+        memcpy(out + at, block, 16);
+    }
 }
 
 /* ---- SHA-256, FIPS 180-4 */

@@ -1,8 +1,7 @@
-/* A host in C: guest 0 makes an AES-CBC session, has 32 bytes encrypted, ends the session, and asks again.
- * The card is a stand-in that mixes bytes; examples/hmac.c and examples/aead.c have real algorithms. README.md says how to build it. */
-#include "host.h"
-
-/* ---- what the guest writes */
+/* A guest of the cipher service: guest 0 makes an AES-CBC session, has 32 bytes encrypted, ends the session, and asks again.
+ * Key, IV, text and result are those of SP 800-38A, section F.2.1. serve.c is the host. README.md says how to build it. */
+#include "guest.h"
+#include "serve.h"
 
 /* Header (16 bytes), fixed part (56), key (16). */
 static void put_create(uint8_t readable[88], const uint8_t key[16])
@@ -13,7 +12,7 @@ static void put_create(uint8_t readable[88], const uint8_t key[16])
     put_le32(readable + 4, VCRYPTO_AES_CBC);
     put_le32(part + 0, VCRYPTO_AES_CBC);
     put_le32(part + 4, 16); /* key_len */
-    put_le32(part + 8, VCRYPTO_ENCRYPT);
+    put_le32(part + 8, VCRYPTO_DIR_ENCRYPT);
     put_le32(part + 48, VCRYPTO_OP_CIPHER);
     memcpy(part + VCRYPTO_CIPHER_CREATE_PART, key, 16);
 }
@@ -42,77 +41,46 @@ static void put_data(uint8_t readable[120], uint64_t session, const uint8_t iv[1
     memcpy(part + VCRYPTO_CIPHER_DATA_PART + 16, source, 32);
 }
 
-/* ---- what the host does with each request */
+static const struct vcrypto_config config = {
+    .status = VCRYPTO_READY,
+    .queues = 1,
+    .services = 1u << VCRYPTO_CIPHER,
+    .ciphers = 1u << VCRYPTO_AES_CBC,
+    .cipherkey = VCRYPTO_KEY_LIMIT,
+    .size = 65536,
+};
 
-/* Here a host calls its card; this mixes the bytes, so that the example shows which ones it was given. */
-static uint8_t card(const uint8_t *key, size_t key_len, const uint8_t *iv, size_t iv_len, const uint8_t *source, size_t source_len, uint8_t *out)
-{
-    for (size_t i = 0; i < source_len; i++)
-        out[i] = source[i] ^ iv[i % iv_len] ^ key[i % key_len];
-    return VCRYPTO_OK;
-}
-
-static uint8_t serve_data(struct host *h, uint8_t guest, const uint8_t *readable, size_t readable_len, uint8_t *writable, size_t writable_len)
-{
-    struct vcrypto_admission job = vcrypto_admit(h->table, guest, readable, readable_len, writable, writable_len);
-    if (job.answer != VCRYPTO_OK)
-        return job.answer;
-
-    const struct vcrypto_slot *session = find_session(&h->table, guest, job.number);
-    struct vcrypto_span iv = vcrypto_iv(h->table, guest, readable, readable_len, writable, writable_len);
-    struct vcrypto_span source = vcrypto_source(h->table, guest, readable, readable_len, writable, writable_len);
-    struct vcrypto_span key = vcrypto_key(h->table, guest, job.number, h->store, sizeof h->store);
-    printf("session %llu, algorithm %u: IV %zu from %zu, source %zu from %zu, key %zu from %zu\n", (unsigned long long)job.number, session->algo,
-           iv.size, iv.start, source.size, source.start, key.size, key.start);
-
-    uint8_t verdict = card(h->store + key.start, key.size, readable + iv.start, iv.size, readable + source.start, source.size, writable);
-    return vcrypto_finish(h->table, guest, job.opcode, verdict, writable, writable_len);
-}
-
-/* ---- one run */
+static const uint8_t key[16] = {0x2b, 0x7e, 0x15, 0x16, 0x28, 0xae, 0xd2, 0xa6, 0xab, 0xf7, 0x15, 0x88, 0x09, 0xcf, 0x4f, 0x3c};
+static const uint8_t iv[16] = {0, 1, 2, 3, 4, 5, 6, 7, 8, 9, 10, 11, 12, 13, 14, 15};
+static const uint8_t text[32] = {0x6b, 0xc1, 0xbe, 0xe2, 0x2e, 0x40, 0x9f, 0x96, 0xe9, 0x3d, 0x7e, 0x11, 0x73, 0x93, 0x17, 0x2a,
+                                 0xae, 0x2d, 0x8a, 0x57, 0x1e, 0x03, 0xac, 0x9c, 0x9e, 0xb7, 0x6f, 0xac, 0x45, 0xaf, 0x8e, 0x51};
 
 static struct host host;
 
 int main(void)
 {
-    expect("set-up:", host_start(&host, VCRYPTO_CIPHER, 12, VCRYPTO_AES_CBC), VCRYPTO_OK); /* 12: cipher_algo_l */
+    expect("set-up:", host_start(&host, &config), VCRYPTO_OK);
     expect("attach:", host_attach(&host, 0), VCRYPTO_OK);
 
-    uint8_t key[16], iv[16], source[32];
-    for (int i = 0; i < 16; i++) {
-        key[i] = (uint8_t)(0x10 + i);
-        iv[i] = (uint8_t)(0xa0 + i);
-    }
-    for (int i = 0; i < 32; i++)
-        source[i] = (uint8_t)i;
-
-    uint8_t create[88], created[VCRYPTO_CREATE_OUTCOME];
+    uint8_t create[88], created[VCRYPTO_CREATE_OUTCOME] = {0};
     put_create(create, key);
-    memset(created, 0xff, sizeof created);
     expect("create:", host_control(&host, 0, create, sizeof create, created, sizeof created), VCRYPTO_OK);
     uint64_t session = get_le64(created);
     expect("its session number:", session, 1);
 
-    uint8_t data[120], done[32 + VCRYPTO_DATA_OUTCOME];
-    put_data(data, session, iv, source);
-    memset(done, 0xff, sizeof done);
-    expect("data:", serve_data(&host, 0, data, sizeof data, done, sizeof done), VCRYPTO_OK);
+    uint8_t data[120], done[32 + VCRYPTO_DATA_OUTCOME] = {0};
+    put_data(data, session, iv, text);
+    expect("data:", host_data(&host, 0, data, sizeof data, done, sizeof done), VCRYPTO_OK);
     expect("its status byte:", done[32], VCRYPTO_OK);
-    for (int i = 0; i < 32; i++)
-        if (done[i] != (source[i] ^ iv[i % 16] ^ key[i % 16]))
-            wrong = 1;
+    show("ciphertext:", done, 32);
 
     uint8_t destroy[24], destroyed[VCRYPTO_DESTROY_OUTCOME];
     put_destroy(destroy, session);
-    memset(destroyed, 0xff, sizeof destroyed);
     expect("destroy:", host_control(&host, 0, destroy, sizeof destroy, destroyed, sizeof destroyed), VCRYPTO_OK);
 
-    size_t left = 0;
-    for (size_t i = 0; i < sizeof host.store; i++)
-        left += host.store[i] != 0;
-    expect("key store bytes that are not zero:", left, 0);
+    expect("key store bytes that are not zero:", count_nonzero(host.store, sizeof host.store), 0);
 
-    expect("data again:", serve_data(&host, 0, data, sizeof data, done, sizeof done), VCRYPTO_INVSESS);
+    expect("data again:", host_data(&host, 0, data, sizeof data, done, sizeof done), VCRYPTO_INVSESS);
     expect("its status byte:", done[32], VCRYPTO_INVSESS);
     return wrong;
 }

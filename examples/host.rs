@@ -2,9 +2,8 @@
 //! README.md says how to build it.
 mod vcrypto;
 
-const MAC_CREATE: u32 = 0x0202;
-const MAC_DATA: u32 = 0x0200;
-const HMAC_SHA_256: u32 = 4;
+use vcrypto::{HMAC_SHA_256, MAC_CREATE, MAC_DATA, OK, READY, REVISION_1, SESSION_MODE};
+
 const RESULT: usize = 32;
 
 fn put32(bytes: &mut [u8], at: usize, x: u32) {
@@ -33,10 +32,10 @@ fn main() {
     let guest = 7;
     let mut store = vec![0xff; vcrypto::STORE_SIZE];
     // status, max_dataqueues, crypto_services: MAC, mac_algo_l, max_auth_key_len, max_size
-    let config = fields(56, &[(0, 1), (4, 1), (8, 1 << 2), (24, 1 << HMAC_SHA_256), (40, 64), (48, 65536)]);
+    let config = fields(56, &[(0, READY), (4, 1), (8, 1 << vcrypto::MAC), (24, 1 << HMAC_SHA_256), (40, 64), (48, 65536)]);
     let reply = vcrypto::set_up(&config, &[8; 8], &[32; 8], &mut store);
     println!("set-up: {}", reply.answer);
-    let reply = vcrypto::attach(&reply.table, guest, 1, &mut store);
+    let reply = vcrypto::attach(&reply.table, guest, REVISION_1, &mut store);
     println!("attach: {}", reply.answer);
 
     // header: opcode, algo; fixed part: algo, hash_result_len, auth_key_len; then the key
@@ -54,11 +53,14 @@ fn main() {
 
     // header: opcode, session_id, flag; fixed part: src_data_len, hash_result_len; then the source
     let text = b"a text to be authenticated";
-    let mut data = fields(32, &[(0, MAC_DATA), (8, 1), (16, 1), (24, text.len() as u32), (28, RESULT as u32)]);
+    let mut data = fields(32, &[(0, MAC_DATA), (8, 1), (16, SESSION_MODE), (24, text.len() as u32), (28, RESULT as u32)]);
     data.extend(text);
     let mut writable = [0xff; RESULT + 1];
     let job = vcrypto::admit(&table, guest, &data, &mut writable);
     println!("data: {}, session {}, opcode {:#06x}", job.answer, job.number, job.opcode);
+    if job.answer != OK {
+        return;
+    }
     let source = vcrypto::source(&table, guest, &data, &writable);
     let key = vcrypto::key(&table, guest, job.number, &store);
     println!("source: {}, key: the {} bytes given: {}", String::from_utf8_lossy(source), key.len(), key == secret);
@@ -67,5 +69,5 @@ fn main() {
     let mut result = [0; RESULT];
     card(key, source, &mut result);
     writable[..RESULT].copy_from_slice(&result);
-    println!("finish: {}, status byte {}", vcrypto::finish(&table, guest, job.opcode, vcrypto::OK, &mut writable), writable[RESULT]);
+    println!("finish: {}, status byte {}", vcrypto::finish(&table, guest, job.opcode, OK, &mut writable), writable[RESULT]);
 }

@@ -1,14 +1,117 @@
-//! The ten calls of libvcrypto for Rust: the declarations of include/vcrypto.h, and safe calls over them, which ask for whole slices that do not overlap,
-//! as Rust's own do.
+//! The ten calls of libvcrypto for Rust: the constants and declarations of include/vcrypto.h, whose names lose their prefix, and safe calls, which ask for
+//! whole slices that do not overlap, as Rust's own do. 3DES_CBC is TDES_CBC here. What each call answers and writes stands in the header.
 #![allow(dead_code)]
 
+// Answers.
 pub const OK: u8 = 0;
 pub const ERR: u8 = 1;
 pub const BADMSG: u8 = 2;
 pub const NOTSUPP: u8 = 3;
 pub const INVSESS: u8 = 4;
 pub const NOSPC: u8 = 5;
+pub const BAD_GUEST: u8 = 16;
+pub const NO_OUTCOME: u8 = 17;
+pub const BAD_STORE: u8 = 18;
+pub const BAD_FEATURE: u8 = 19;
+pub const BAD_SHARES: u8 = 20;
+pub const BAD_CONFIG: u8 = 21;
+
+// Services.
+pub const CIPHER: u8 = 0;
+pub const HASH: u8 = 1;
+pub const MAC: u8 = 2;
+pub const AEAD: u8 = 3;
+
+// Opcodes of control requests.
+pub const CIPHER_CREATE: u32 = 0x0002;
+pub const CIPHER_DESTROY: u32 = 0x0003;
+pub const HASH_CREATE: u32 = 0x0102;
+pub const HASH_DESTROY: u32 = 0x0103;
+pub const MAC_CREATE: u32 = 0x0202;
+pub const MAC_DESTROY: u32 = 0x0203;
+pub const AEAD_CREATE: u32 = 0x0302;
+pub const AEAD_DESTROY: u32 = 0x0303;
+
+// Opcodes of data requests.
+pub const CIPHER_ENCRYPT: u32 = 0x0000;
+pub const CIPHER_DECRYPT: u32 = 0x0001;
+pub const HASH_DATA: u32 = 0x0100;
+pub const MAC_DATA: u32 = 0x0200;
+pub const AEAD_ENCRYPT: u32 = 0x0300;
+pub const AEAD_DECRYPT: u32 = 0x0301;
+
+// Directions.
+pub const DIR_ENCRYPT: u32 = 1;
+pub const DIR_DECRYPT: u32 = 2;
+
+// Ciphers.
+pub const AES_ECB: u32 = 2;
+pub const AES_CBC: u32 = 3;
+pub const AES_CTR: u32 = 4;
+pub const TDES_CBC: u32 = 8;
+pub const AES_XTS: u32 = 13;
+
+// Hashes.
+pub const MD5: u32 = 1;
+pub const SHA1: u32 = 2;
+pub const SHA_224: u32 = 3;
+pub const SHA_256: u32 = 4;
+pub const SHA_384: u32 = 5;
+pub const SHA_512: u32 = 6;
+
+// MACs.
+pub const HMAC_MD5: u32 = 1;
+pub const HMAC_SHA1: u32 = 2;
+pub const HMAC_SHA_224: u32 = 3;
+pub const HMAC_SHA_256: u32 = 4;
+pub const HMAC_SHA_384: u32 = 5;
+pub const HMAC_SHA_512: u32 = 6;
+pub const CMAC_AES: u32 = 26;
+
+// AEADs.
+pub const GCM: u32 = 1;
+pub const CCM: u32 = 2;
+pub const CHACHA20_POLY1305: u32 = 3;
+
+// All bits of the services and of each mask.
+pub const ALL_SERVICES: u32 = 0x0f;
+pub const ALL_CIPHERS: u32 = 0x211c;
+pub const ALL_HASHES: u32 = 0x7e;
+pub const ALL_MACS: u32 = 0x0400007e;
+pub const ALL_AEADS: u32 = 0x0e;
+
+// Values that a request or a configuration must have.
+pub const READY: u32 = 1;
+pub const REVISION_1: u32 = 1;
+pub const SESSION_MODE: u32 = 1;
+pub const OP_CIPHER: u32 = 1;
+
+// Sizes of what a request is made of.
+pub const CONTROL_HEADER: usize = 16;
+pub const CIPHER_CREATE_PART: usize = 56;
+pub const HASH_CREATE_PART: usize = 8;
+pub const MAC_CREATE_PART: usize = 16;
+pub const AEAD_CREATE_PART: usize = 24;
+pub const DESTROY_PART: usize = 8;
+pub const CREATE_OUTCOME: usize = 16;
+pub const DESTROY_OUTCOME: usize = 1;
+pub const DATA_HEADER: usize = 24;
+pub const CIPHER_DATA_PART: usize = 48;
+pub const HASH_DATA_PART: usize = 8;
+pub const MAC_DATA_PART: usize = 8;
+pub const AEAD_DATA_PART: usize = 24;
+pub const DATA_OUTCOME: usize = 1;
+
+// Sizes and limits.
+pub const GUESTS: usize = 8;
+pub const SLOTS: usize = 128;
+pub const KEY_AREA: usize = 128;
 pub const STORE_SIZE: usize = 16384;
+pub const CONFIG_SIZE: usize = 56;
+pub const TABLE_SIZE: usize = 3272;
+pub const KEY_LIMIT: usize = 64;
+pub const SIZE_LIMIT: usize = 1048576;
+pub const QUEUE_LIMIT: usize = 8;
 
 #[derive(Clone, Copy)]
 #[repr(C)]

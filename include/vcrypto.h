@@ -3,15 +3,18 @@
  * A host takes requests from its guests' queues, calls the library with their bytes, has its card do what was accepted, and reports how that
  * went. docs/RULES.md has the whole of the rules, and the numbers in brackets below are its rules. examples/ has hosts for cipher, MAC and AEAD.
  *
- * Every call answers for any bytes, any lengths and any table. What is left to the caller:
+ * Every call answers for any bytes, any lengths and any table. Its memory is the caller's care [12.2]:
  *   - each pointer has as many bytes as its length says; a null pointer is fine where the length is 0;
  *   - no writable bytes, and not the key store, overlap other bytes lent to the same call;
- *   - the bytes lent do not change during a call: where a guest could still write to a request, copy it first;
- *   - a bool in a table is 0 or 1;
- *   - the table is the one that the last call returned, the key store always the same and written by nobody else, and one call runs at a time.
+ *   - the bytes of a request do not change: those of a data request from vcrypto_admit to vcrypto_finish, through all calls made for it. Where a guest
+ *     could still write to them, make a copy first;
+ *   - a bool in a table is 0 or 1.
+ * What is promised over many calls, such as reserves and keys that are gone, is promised to a host that hands on the table that the last call returned,
+ * lends always the same key store, which nobody else writes, and makes one call at a time [12.1]. The calls keep nothing of their own.
  *
  * Every answer but VCRYPTO_OK leaves table and key store as they were; one from VCRYPTO_BAD_GUEST on writes nothing at all [2.3, 2.4].
- * Integers in configurations, requests and outcomes have their lowest byte first [1.3]. */
+ * Integers in configurations, requests and outcomes have their lowest byte first [1.3]. The archive is for x86-64 and its System V calls; a call takes some
+ * tens of kilobytes of stack, since tables go by value. */
 #ifndef VCRYPTO_H
 #define VCRYPTO_H
 
@@ -36,7 +39,7 @@ enum {
     VCRYPTO_ERR = 1,          /* refused, for a reason without a number of its own */
     VCRYPTO_BADMSG = 2,       /* the tag of an AEAD decryption is wrong; by vcrypto_finish alone */
     VCRYPTO_NOTSUPP = 3,      /* service, operation, algorithm or mode not offered */
-    VCRYPTO_INVSESS = 4,      /* no such session */
+    VCRYPTO_INVSESS = 4,      /* no such session, for a data request or key fetch; a destroy of none is ERR */
     VCRYPTO_NOSPC = 5,        /* no room for another session of this guest */
     VCRYPTO_BAD_GUEST = 16,   /* above 7, or not attached */
     VCRYPTO_NO_OUTCOME = 17,  /* no place for the outcome in the writable bytes */
@@ -46,7 +49,7 @@ enum {
     VCRYPTO_BAD_CONFIG = 21   /* configuration refused */
 };
 
-/* Services; also their bits in the configuration's crypto_services [3.1]. */
+/* Services. 1u << VCRYPTO_MAC is the bit of one in the configuration's crypto_services [3.1]. */
 enum {
     VCRYPTO_CIPHER = 0,
     VCRYPTO_HASH = 1,
@@ -78,11 +81,12 @@ enum {
 
 /* Directions of a cipher or AEAD session [3.4]. */
 enum {
-    VCRYPTO_ENCRYPT = 1,
-    VCRYPTO_DECRYPT = 2
+    VCRYPTO_DIR_ENCRYPT = 1,
+    VCRYPTO_DIR_DECRYPT = 2
 };
 
-/* Algorithms; also their bits in the mask of their service [3.5]. Their key, IV, result and tag lengths: [9]. */
+/* Algorithms of cipher, hash, MAC and AEAD. 1u << VCRYPTO_AES_CBC is the bit of one in the mask of its service [3.5]. Their key, IV, result and tag
+ * lengths: [9]. */
 enum {
     VCRYPTO_AES_ECB = 2,
     VCRYPTO_AES_CBC = 3,
@@ -111,6 +115,15 @@ enum {
     VCRYPTO_GCM = 1,
     VCRYPTO_CCM = 2,
     VCRYPTO_CHACHA20_POLY1305 = 3
+};
+
+/* All bits of crypto_services and of each mask [4.2]. */
+enum {
+    VCRYPTO_ALL_SERVICES = 0x0f,
+    VCRYPTO_ALL_CIPHERS = 0x211c,
+    VCRYPTO_ALL_HASHES = 0x7e,
+    VCRYPTO_ALL_MACS = 0x0400007e,
+    VCRYPTO_ALL_AEADS = 0x0e
 };
 
 /* Values that a request or a configuration must have to be taken. */
@@ -146,12 +159,14 @@ enum {
     VCRYPTO_STORE_SIZE = 16384,
     VCRYPTO_CONFIG_SIZE = 56,
     VCRYPTO_TABLE_SIZE = 3272,
-    VCRYPTO_MAX_SIZE = 1048576 /* the largest max_size of a configuration */
+    VCRYPTO_KEY_LIMIT = 64,       /* the largest max_cipher_key_len and max_auth_key_len of a configuration */
+    VCRYPTO_SIZE_LIMIT = 1048576, /* its largest max_size: what a data request reads and writes in sum, so twice the source of a cipher and its IV */
+    VCRYPTO_QUEUE_LIMIT = 8       /* its largest max_dataqueues */
 };
 
 /* ---- structures */
 
-/* A configuration, field by field in the order of its 56 bytes [4.1]. */
+/* A configuration, field by field in the order of its 56 bytes [4.1]: on x86-64 the bytes of this struct are those of a configuration. */
 struct vcrypto_config {
     uint32_t status;
     uint32_t queues;    /* max_dataqueues */
@@ -195,15 +210,18 @@ struct vcrypto_guest {
     uint64_t last;
 };
 
-/* How a host learns what its card is to run [12.4]: after vcrypto_admit has answered VCRYPTO_OK, the session is the held slot whose owner and number
- * are the guest and the number that it named. There is one in any table that calls have left. Its algo is the algorithm, its result the length of the
- * tag or result. find_session in examples/host.h does this. */
 struct vcrypto_table {
     struct vcrypto_config config;
     struct vcrypto_occupied occupied;
     struct vcrypto_slot slots[VCRYPTO_SLOTS];
     struct vcrypto_guest guests[VCRYPTO_GUESTS];
 };
+
+#if defined(__cplusplus) && __cplusplus >= 201103L
+static_assert(sizeof(struct vcrypto_table) == VCRYPTO_TABLE_SIZE, "the archive has another table");
+#elif defined(__STDC_VERSION__) && __STDC_VERSION__ >= 201112L
+_Static_assert(sizeof(struct vcrypto_table) == VCRYPTO_TABLE_SIZE, "the archive has another table");
+#endif
 
 /* An answer, and the table afterwards. */
 struct vcrypto_reply {
@@ -232,11 +250,12 @@ struct vcrypto_span {
  *   BAD_CONFIG   not 56 bytes; status not 1; max_dataqueues not 1 to 8; a bit of crypto_services above 3; a mask's bit of no algorithm above;
  *                a key limit above 64; reserved not 0; max_size above 1,048,576
  *   BAD_SHARES   a reserve above its cap, a cap above 128, or reserves that sum to more than 128
- * OK: all slots free, no guest attached, the store all zero. Else: a table that offers nothing, and the store as it was. */
+ * OK: all slots free, no guest attached, the store all zero. Else: a table that offers nothing, and the store as it was, old keys included. */
 struct vcrypto_reply vcrypto_set_up(const uint8_t *config, size_t config_len, const uint8_t reserves[VCRYPTO_GUESTS], const uint8_t caps[VCRYPTO_GUESTS],
                                     uint8_t *store, size_t store_len);
 
-/* Attaches a guest; of an attached one it is the reset. Frees its slots, zeroes their key areas, restarts its session numbers. [5]
+/* Attaches a guest; of an attached one it is the reset. Frees its slots, zeroes their key areas, restarts its session numbers. `word` has the feature
+ * bits of the device that the guest took, and none of the transport's. A refusal leaves its sessions and keys: do not serve it then. [5, 12.8]
  *   BAD_STORE    store_len is not 16,384
  *   BAD_GUEST    guest above 7
  *   BAD_FEATURE  word is not 1 */
@@ -280,11 +299,17 @@ struct vcrypto_reply vcrypto_control(struct vcrypto_table table, uint8_t guest, 
  *   ERR          IV, source, AAD and what is written sum to more than max_size
  *   ERR          readable bytes are not exactly header, fixed part, IV, source and AAD, or writable ones not destination or result and 1
  *   ERR          lengths against the rules, or AAD, tag or result not the session's [9]
- * A refusal from 1 to 5 writes the last writable byte; an acceptance writes nothing until vcrypto_finish. The table does not change. */
+ * A refusal from 1 to 5 writes the last writable byte; an acceptance writes nothing until vcrypto_finish. The table does not change.
+ *
+ * How a host learns what its card is to run [12.4]: after OK, the session is the held slot of the table whose owner and number are the guest and the number
+ * that were named; in any table that calls have left there is one. Its service and algo together are the algorithm, the opcode gives the direction,
+ * and its result is the length of the tag or result. find_session in examples/serve.c does this; a call for it is to come. */
 struct vcrypto_admission vcrypto_admit(struct vcrypto_table table, uint8_t guest, const uint8_t *readable, size_t readable_len, uint8_t *writable,
                                        size_t writable_len);
 
-/* Where the IV, the source and the AAD of a data request lie in its readable bytes; empty where it is refused or has none. They write nothing. [10.11]
+/* Where the IV, the source and the AAD of a data request lie in its readable bytes; empty where it is refused or has none. They write nothing, and of
+ * the writable bytes they look at the length. Ask right after an OK, with the same arguments: each decides the admission anew, and an empty part is no
+ * sign of an error. [10.11]
  * Of an AEAD encryption the tag goes behind the ciphertext: the destination is source and tag. Of a decryption the last bytes of the source are the
  * tag, as many as the session's `result`, and the destination is shorter by them. [12.5] */
 struct vcrypto_span vcrypto_iv(struct vcrypto_table table, uint8_t guest, const uint8_t *readable, size_t readable_len, const uint8_t *writable,
@@ -300,11 +325,13 @@ struct vcrypto_span vcrypto_aad(struct vcrypto_table table, uint8_t guest, const
  *   INVSESS      no live session of this guest has that number */
 uint8_t vcrypto_key_answer(struct vcrypto_table table, uint8_t guest, uint64_t number, const uint8_t *store, size_t store_len);
 
-/* Where the session's key lies in the store; empty where that answer is not OK, and for a hash. Writes nothing. [7.6] */
+/* Where the session's key lies in the store; empty where that answer is not OK, and for a hash. Writes nothing. The key stays there until the next
+ * set-up, attach or control request: a card that works longer needs a copy. [7.6, 12.9] */
 struct vcrypto_span vcrypto_key(struct vcrypto_table table, uint8_t guest, uint64_t number, const uint8_t *store, size_t store_len);
 
 /* Writes the verdict on an accepted data request as the last writable byte, and answers that byte: OK, ERR, or BADMSG where the opcode is
- * VCRYPTO_AEAD_DECRYPT; ERR for any other verdict. The opcode is the one that vcrypto_admit named. [11]
+ * VCRYPTO_AEAD_DECRYPT; ERR for any other verdict. The opcode is the one that vcrypto_admit named. With any verdict but OK, leave nothing of the
+ * card's output in the writable bytes: nobody else takes it out. [11, 12.5]
  *   BAD_GUEST    guest above 7, or not attached
  *   NO_OUTCOME   no writable byte */
 uint8_t vcrypto_finish(struct vcrypto_table table, uint8_t guest, uint32_t opcode, uint8_t verdict, uint8_t *writable, size_t writable_len);

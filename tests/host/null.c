@@ -1,6 +1,15 @@
 /* A buffer of length 0 may be a null pointer: each call with null for each buffer that may be empty answers as with a pointer that is not null, and
  * neither changes anything. */
-#include "host.h"
+#include "guest.h"
+#include "serve.h"
+
+static const struct vcrypto_config config = {
+    .status = VCRYPTO_READY,
+    .queues = 1,
+    .services = 1u << VCRYPTO_HASH,
+    .hashes = 1u << VCRYPTO_MD5,
+    .size = 65536,
+};
 
 static struct host host;
 static uint8_t here[1]; /* not null, and of no use */
@@ -95,7 +104,7 @@ int main(void)
     put_le64(request + 8, 1);
     put_le32(request + 16, VCRYPTO_SESSION_MODE);
     put_le32(request + 28, 16);
-    uint8_t answer = host_start(&host, VCRYPTO_HASH, 20, VCRYPTO_MD5) | host_attach(&host, 0);
+    uint8_t answer = host_start(&host, &config) | host_attach(&host, 0);
     answer |= host_control(&host, 0, create, sizeof create, outcome, sizeof outcome);
     answer |= vcrypto_admit(host.table, 0, request, sizeof request, done, sizeof done).answer;
     is("the session", answer, answer, VCRYPTO_OK);

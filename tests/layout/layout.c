@@ -41,6 +41,17 @@ static void same_list(const char *what, const size_t *ours, size_t n, const size
 #define LIST(name, ...) same_list(#name, (size_t[]){NUMBERS_##name}, COUNT(NUMBERS_##name), (size_t[]){__VA_ARGS__}, COUNT(__VA_ARGS__))
 #define NUMBER(name, i, theirs) same(#name, (size_t[]){NUMBERS_##name}[i], theirs)
 
+/* The mask with these bits. */
+#define MASK(...) mask_of((size_t[]){__VA_ARGS__}, COUNT(__VA_ARGS__))
+
+static size_t mask_of(const size_t *bits, size_t n)
+{
+    size_t mask = 0;
+    for (size_t i = 0; i < n; i++)
+        mask |= (size_t)1 << bits[i];
+    return mask;
+}
+
 /* A constant of vcrypto.h, by its name there. */
 #define CONSTANT(name, theirs) same("VCRYPTO_" #name, VCRYPTO_##name, theirs)
 
@@ -72,7 +83,9 @@ static void configuration(void)
     same("VCRYPTO_CONFIG_SIZE", VCRYPTO_CONFIG_SIZE, sizeof(struct virtio_crypto_config));
     NUMBER(configOk, 0, VIRTIO_CRYPTO_S_HW_READY);
     CONSTANT(READY, VIRTIO_CRYPTO_S_HW_READY);
-    LIST(sizeLimit, VCRYPTO_MAX_SIZE);
+    LIST(sizeLimit, VCRYPTO_SIZE_LIMIT);
+    /* status 1, queues 1 to 8, key limits */
+    LIST(configOk, VCRYPTO_READY, 1, VCRYPTO_QUEUE_LIMIT, VCRYPTO_KEY_LIMIT, VCRYPTO_KEY_LIMIT, 0);
 }
 
 static void control_requests(void)
@@ -254,8 +267,8 @@ static void numbers(void)
     CONSTANT(HASH, VIRTIO_CRYPTO_SERVICE_HASH);
     CONSTANT(MAC, VIRTIO_CRYPTO_SERVICE_MAC);
     CONSTANT(AEAD, VIRTIO_CRYPTO_SERVICE_AEAD);
-    CONSTANT(ENCRYPT, VIRTIO_CRYPTO_OP_ENCRYPT);
-    CONSTANT(DECRYPT, VIRTIO_CRYPTO_OP_DECRYPT);
+    CONSTANT(DIR_ENCRYPT, VIRTIO_CRYPTO_OP_ENCRYPT);
+    CONSTANT(DIR_DECRYPT, VIRTIO_CRYPTO_OP_DECRYPT);
 
     LIST(opcodeOk, VIRTIO_CRYPTO_CIPHER_CREATE_SESSION, VIRTIO_CRYPTO_CIPHER_DESTROY_SESSION, VIRTIO_CRYPTO_HASH_CREATE_SESSION,
          VIRTIO_CRYPTO_HASH_DESTROY_SESSION, VIRTIO_CRYPTO_MAC_CREATE_SESSION, VIRTIO_CRYPTO_MAC_DESTROY_SESSION, VIRTIO_CRYPTO_AEAD_CREATE_SESSION,
@@ -280,6 +293,11 @@ static void numbers(void)
     LIST(macs, VCRYPTO_HMAC_MD5, VCRYPTO_HMAC_SHA1, VCRYPTO_HMAC_SHA_224, VCRYPTO_HMAC_SHA_256, VCRYPTO_HMAC_SHA_384, VCRYPTO_HMAC_SHA_512,
          VCRYPTO_CMAC_AES);
     LIST(aeads, VCRYPTO_GCM, VCRYPTO_CCM, VCRYPTO_CHACHA20_POLY1305);
+    CONSTANT(ALL_SERVICES, MASK(NUMBERS_cipher, NUMBERS_hash, NUMBERS_mac, NUMBERS_aead));
+    CONSTANT(ALL_CIPHERS, MASK(NUMBERS_ciphers));
+    CONSTANT(ALL_HASHES, MASK(NUMBERS_hashes));
+    CONSTANT(ALL_MACS, MASK(NUMBERS_macs));
+    CONSTANT(ALL_AEADS, MASK(NUMBERS_aeads));
 
     /* the kernel's KEY_REJECTED, 6, is of the asymmetric service */
     LIST(ok, VIRTIO_CRYPTO_OK);
