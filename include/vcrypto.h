@@ -1,7 +1,7 @@
 /* libvcrypto: the device side of a virtio crypto device for eight guests, as ten calls.
  *
  * A host takes requests from its guests' queues, calls the library with their bytes, has its card do what was accepted, and reports how that
- * went. docs/RULES.md has the whole of the rules, and the numbers in brackets below are its rules. examples/ has hosts for cipher, MAC and AEAD.
+ * went. docs/RULES.md has the whole of the rules, and the numbers in brackets below are its rules. examples/ has a host for cipher, MAC and AEAD.
  *
  * Every call answers for any bytes, any lengths and any table. Its memory is the caller's care [12.2]:
  *   - each pointer has as many bytes as its length says; a null pointer is fine where the length is 0;
@@ -14,7 +14,7 @@
  *
  * Every answer but VCRYPTO_OK leaves table and key store as they were; one from VCRYPTO_BAD_GUEST on writes nothing at all [2.3, 2.4].
  * Integers in configurations, requests and outcomes have their lowest byte first [1.3]. The archive is for x86-64 and its System V calls; a call takes some
- * tens of kilobytes of stack, since tables go by value. */
+ * 20 kilobytes of stack, since tables go by value. */
 #ifndef VCRYPTO_H
 #define VCRYPTO_H
 
