@@ -1,5 +1,7 @@
 // The device side of a virtio crypto device for eight guests: the public calls, for any bytes, lengths and table. What each one answers and
 // leaves is `reply` and `next` of its request, and `set_up`, in the crate model.
+#![tactic(auto)]
+
 ghost use Rattle.std.specs.Prelude.{◌≡◌, suc, ltb, length};
 ghost use Rattle.model.specs.declared.Field.TheVariants.{Iv, Source, Aad};
 ghost use Rattle.model.specs.Bytes.{le64};

@@ -4,7 +4,7 @@ use Rattle.std.specs.Prelude.{◌≡◌, refl, Bool, true, false, cond, List, ma
 use Rattle.std.proofs.Common.{sym, ap, ◌∙◌, arith, eqb-true, eq-eqb, ne_eqb, get_or-set_same, get_or-set_other}
 use Rattle.std.proofs.Math.Option.{none, some}
 use Rattle.std.proofs.lemmas.Bool.{eqb-false, not-true as not-held}
-use Rattle.lists.specs.Test.{and_true, not-true}
+use Rattle.lists.specs.Test.{and_true, not_true}
 use Rattle.lists.specs.Seek.{count, first, swap, All, count_swap, count_swap_other, first_passes, first_none, first_swap_other, first_swap_new, count_same, count_none, count_map, first_map, All-every, All-swap, All-weaken, All-map}
 use Rattle.model.specs.declared.Guest.{Guest}
 use Rattle.history.specs.Cells.{State, Cell, view, view_in, guest_of, matches, named, owns, is_free, no_cell, entry_of}
@@ -194,7 +194,7 @@ own_create s g e a f i = record { guest = guest i; holds = holds i; find = λ n.
 
 -- a live session has one number
 miss : (s : State) (g n m : ℕ) (f : Found s g n) → (m ≡ n → ⊥) → matches s.setting (guest_of s g) g m f.cell ≡ false
-miss s g n m f d = not-true (matches s.setting (guest_of s g) g m f.cell) (λ e.
+miss s g n m f d = not_true (matches s.setting (guest_of s g) g m f.cell) (λ e.
     let a = named_true g n f.cell (found_named s g n f) in
     let b = named_true g m f.cell (and_true (named g m f.cell) _ e).0 in
     d (sym b.2 ∙ a.2))

@@ -1,4 +1,5 @@
 // The session table, by value, and the paper's numbers. What is right of them stands in specs/.
+#![tactic(auto)]
 
 // Paper 01's answers; those from BAD_GUEST on have no outcome bytes.
 pub const OK: u8 = 0;
@@ -47,7 +48,7 @@ pub const STORE_SIZE: usize = 16384;
 
 // Document 001's virtio_crypto_config, field by field.
 #[repr(C)]
-#[derive(Drop)]
+#[derive(Clone, Copy)]
 pub struct Config {
     pub status: u32,
     pub queues: u32,
@@ -65,7 +66,7 @@ pub struct Config {
 }
 
 // What a create fixes. `result` is a hash or MAC result, or an AEAD tag.
-#[derive(Drop)]
+#[derive(Clone, Copy)]
 pub struct Session {
     pub service: u32,
     pub algo: u32,
@@ -76,7 +77,7 @@ pub struct Session {
 }
 
 // The lengths of a data request; `written` is what is written before the status.
-#[derive(Drop)]
+#[derive(Clone, Copy)]
 pub struct Lengths {
     pub iv: u32,
     pub source: u32,
@@ -86,7 +87,7 @@ pub struct Lengths {
 }
 
 // The readable variable parts of a data request.
-#[derive(Drop)]
+#[derive(Clone, Copy)]
 pub enum Field {
     Iv,
     Source,
@@ -95,7 +96,7 @@ pub enum Field {
 
 // Where a part or key lies in the bytes that were lent.
 #[repr(C)]
-#[derive(Drop)]
+#[derive(Clone, Copy)]
 pub struct Span {
     pub start: usize,
     pub size: usize,
@@ -103,7 +104,7 @@ pub struct Span {
 
 // Bit s of the two words says that slot s is held: slots 0 to 63 by `low`, 64 to 127 by `high`.
 #[repr(C)]
-#[derive(Drop)]
+#[derive(Clone, Copy)]
 pub struct Occupied {
     pub low: u64,
     pub high: u64,
@@ -111,7 +112,7 @@ pub struct Occupied {
 
 // A session. The fields of a slot whose bit is clear mean nothing.
 #[repr(C)]
-#[derive(Drop)]
+#[derive(Clone, Copy)]
 pub struct Slot {
     pub number: u64,
     pub aad: u32,
@@ -125,7 +126,7 @@ pub struct Slot {
 
 // `reserve` and `cap` are the guest's shares, `last` the last session number given since its last attach.
 #[repr(C)]
-#[derive(Drop)]
+#[derive(Clone, Copy)]
 pub struct Guest {
     pub attached: bool,
     pub reserve: u8,

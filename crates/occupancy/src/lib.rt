@@ -1,4 +1,6 @@
 // The held slots as the bits of two words: whether a slot is held, the first that is free, how many are held, and the words with one marked anew or all moved.
+#![tactic(auto)]
+
 ghost use Rattle.std.specs.Prelude.{◌≡◌, false, not, ℕ, suc, get_or, set};
 ghost use Rattle.lists.specs.Seek.{count, index};
 ghost use Rattle.model.specs.Session.{bits_of, word_of, marks_of, occupied_by, marked};

@@ -1,4 +1,6 @@
 // Replays a trace from standard input: a line for each record, then the counts; or `bad trace`. Only `main` reads and writes.
+#![tactic(auto)]
+
 ghost use Rattle.std.specs.Prelude.{ℕ, ◌≤◌, ◌≡◌, List, length, take, replicate};
 ghost use Rattle.model.specs.Device.{reply, next, world};
 ghost use Rattle.trace.specs.Replay.{good_trace, request_of, blank, started_on, shown};

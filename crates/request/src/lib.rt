@@ -1,5 +1,7 @@
 // The checks of the calls in paper 01's order. Each stage takes numbers and answers with the number of the first check that fails, 0 where all
 // hold.
+#![tactic(auto)]
+
 ghost use Rattle.std.specs.Prelude.{◌≡◌, cond, ◌&&◌, ◌++◌, ◌+◌, ◌≤◌, eqb, leb};
 ghost use Rattle.model.specs.Bytes.{part};
 ghost use Rattle.model.specs.Answer.{first_fail};

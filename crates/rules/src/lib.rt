@@ -1,5 +1,7 @@
 // Paper 01's "Rules per algorithm" and the tests of a configuration and of shares. Each rule is its table, written out row by row; the service picks
 // the table, so that a request is asked for one service's rows and not for all four.
+#![tactic(auto)]
+
 ghost use Rattle.std.specs.Prelude.{◌≡◌, false, ◌-◌, ◌^◌, ◌≤◌, ltb};
 ghost use Rattle.model.specs.Lens.{or_in, ruled};
 ghost use Rattle.model.specs.Algorithm.{ciphers, hashes, macs, aeads, cipher_keys, cipher_ivs, cipher_sources, hash_results, mac_keys, cmac_results, aead_keys, aead_ivs, aead_tags};

@@ -1,4 +1,6 @@
 // The session table by value: whose slot is whose, the live session of a number, room for one more, and the tables that calls leave.
+#![tactic(auto)]
+
 ghost use Rattle.std.specs.Prelude.{◌≡◌, not, cond, ℕ, ◌≤◌, ◌<◌, ◌-◌, ltb, get_or};
 ghost use Rattle.lists.specs.Sum.{sum_to, except};
 ghost use Rattle.model.specs.Session.{free, holding, slot_of, session_of, marked, place_of, new_guest, guest_at};

@@ -1,4 +1,6 @@
 // Replay's two counts: the records answered, and the answers 0 among them.
+#![tactic(auto)]
+
 ghost use Rattle.std.specs.Prelude.{◌≡◌};
 ghost use Rattle.tally.specs.Count.{increment, after_answer, none};
 

@@ -1,4 +1,6 @@
 // The lines that replay prints, made as bytes. What does not fit is left out.
+#![tactic(auto)]
+
 ghost use Rattle.std.specs.Prelude.{◌≤◌, ◌≡◌, [], ◌∷◌, length, take};
 ghost use Rattle.text.specs.Lines.{decimal, line, lines_from, text, Puts};
 

@@ -1,4 +1,6 @@
 // Replay's traces: records, then a trailer of 8 bytes with the distance back to the first record and their count.
+#![tactic(auto)]
+
 ghost use Rattle.std.specs.Prelude.{◌≡◌, ◌+◌};
 ghost use Rattle.model.specs.Bytes.{part};
 ghost use Rattle.trace.specs.Replay.{le16, record_at, fits, walks, opened};

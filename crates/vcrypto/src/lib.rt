@@ -1,4 +1,6 @@
 // The ten calls for C and Rust: include/vcrypto.h declares them. A slice is a pointer and a length; a part or key, where it lies in the bytes lent.
+#![tactic(auto)]
+
 ghost use Rattle.std.specs.Prelude.{◌≡◌};
 ghost use Rattle.model.specs.declared.Field.TheVariants.{Iv, Source, Aad};
 ghost use Rattle.model.specs.Setup.{set_up_answer, set_up};

@@ -1,4 +1,6 @@
 // Numbers and parts of byte slices, at any place, and the outcome bytes of requests. A byte past the end reads as 0.
+#![tactic(auto)]
+
 ghost use Rattle.std.specs.Prelude.{◌≡◌, length};
 ghost use Rattle.model.specs.Bytes.{byte, le32, le64, le, part};
 ghost use Rattle.model.specs.Answer.{control_outcome, data_outcome, control_bytes, data_bytes};
