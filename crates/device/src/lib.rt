@@ -17,7 +17,7 @@ ghost use Rattle.device.specs.Stages.{opening, form, granting, creation, destruc
 
 // An answer, and the table afterwards.
 #[repr(C)]
-#[derive(Drop)]
+#[derive(Clone, Copy)]
 pub struct Reply {
     pub answer: u8,
     pub table: model::Table,
@@ -25,7 +25,7 @@ pub struct Reply {
 
 // An answer, and what an accepted data request names; zeros on refusal.
 #[repr(C)]
-#[derive(Drop)]
+#[derive(Clone, Copy)]
 pub struct Admission {
     pub answer: u8,
     pub guest: u8,
@@ -34,7 +34,7 @@ pub struct Admission {
 }
 
 // An answer on a session that a request names, and where that was found.
-#[derive(Drop)]
+#[derive(Clone, Copy)]
 struct Choice {
     answer: u8,
     found: table::Found,

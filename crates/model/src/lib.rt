@@ -135,7 +135,7 @@ pub struct Guest {
 }
 
 #[repr(C)]
-#[derive(Drop)]
+#[derive(Clone, Copy)]
 pub struct Table {
     pub config: Config,
     pub occupied: Occupied,

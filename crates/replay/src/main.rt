@@ -14,7 +14,7 @@ use tally::Tally;
 use trace::{Opened, Record};
 
 // What a trace comes to: whether it is good, the answers of its records, at the front, and their tally.
-#[derive(Drop)]
+#[derive(Clone, Copy)]
 pub struct Ran {
     pub good: bool,
     pub tally: Tally,
@@ -22,7 +22,7 @@ pub struct Ran {
 }
 
 // What is printed of a trace: the first `size` bytes of `text`.
-#[derive(Drop)]
+#[derive(Clone, Copy)]
 pub struct Output {
     pub size: usize,
     pub text: [u8; 110000],

@@ -12,7 +12,7 @@ ghost use Rattle.table.specs.Search.{was_given, claimed};
 ghost use Rattle.table.specs.Narrow.{low, lastly, number_after, lacks};
 
 // The place of a live session, 128 where there is none, and the session, all 0 where there is none.
-#[derive(Drop)]
+#[derive(Clone, Copy)]
 pub struct Found {
     pub at: usize,
     pub session: model::Session,

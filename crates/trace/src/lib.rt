@@ -6,7 +6,7 @@ ghost use Rattle.model.specs.Bytes.{part};
 ghost use Rattle.trace.specs.Replay.{le16, record_at, fits, walks, opened};
 
 // The header of a record; its readable bytes follow it.
-#[derive(Drop)]
+#[derive(Clone, Copy)]
 pub struct Record {
     pub kind: u8,
     pub guest: u8,
@@ -15,14 +15,14 @@ pub struct Record {
 }
 
 // Where the first record starts, and how many there are.
-#[derive(Drop)]
+#[derive(Clone, Copy)]
 pub struct Records {
     pub first: usize,
     pub count: u32,
 }
 
 // A good trace's records, or a bad trace.
-#[derive(Drop)]
+#[derive(Clone, Copy)]
 pub enum Opened {
     Good(Records),
     Bad,

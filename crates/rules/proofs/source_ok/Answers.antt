@@ -1,0 +1,23 @@
+-- `rules::source_ok` meets its contract: the row of the service that the tests picked.
+use mathlib.Core.Path.{refl}
+use Rattle.std.proofs.Common.{rules}
+use borrow.Author.Tests.{ne_eqb}
+use Rattle.model.specs.Algorithm.{source_ok}
+use Rattle.rules.specs.Rows.{first_row}
+use Rattle.rules.proofs.source_ok.Goals as goal
+
+pub returns-then-service-eq-CIPHER : goal.returns-then-service-eq-CIPHER
+unfolding source_ok
+returns-then-service-eq-CIPHER c = rw c.if-service-eq-CIPHER.true (first_row _ _ c.cipher_source.ensures)
+
+pub returns-then-service-eq-HASH : goal.returns-then-service-eq-HASH
+unfolding source_ok
+returns-then-service-eq-HASH c = rw c.if-service-eq-HASH.true refl
+
+pub returns-then-service-eq-MAC : goal.returns-then-service-eq-MAC
+unfolding source_ok
+returns-then-service-eq-MAC c = rw c.if-service-eq-MAC.true refl
+
+pub returns : goal.returns
+unfolding source_ok
+returns c = rw (ne_eqb _ 0 c.if-service-eq-CIPHER.false, ne_eqb _ 1 c.if-service-eq-HASH.false, ne_eqb _ 2 c.if-service-eq-MAC.false) refl

@@ -1,0 +1,14 @@
+-- `text::put_bytes` meets its contract. Assumes nothing.
+use Prim.Native.Nat.{◌≤◌, ◌-◌}
+use Rattle.std.proofs.Common.{arith}
+use lib.ListN.{length, take}
+use Rattle.std.proofs.Common.{rules}
+use Rattle.text.specs.Lines.{Puts}
+use Rattle.text.specs.Laws.{puts_none, puts_byte, puts_all}
+use Rattle.text.proofs.put_bytes.Given as goal
+
+abbrev pub invariant-loop-i : goal.invariant-loop-i
+invariant-loop-i l = (l.i ≤ length l.s) × Puts l.initial.out l.at (take l.i l.s) l.out l.end
+
+abbrev pub decreases-loop-i : goal.decreases-loop-i
+decreases-loop-i l = length l.s - l.i

@@ -1,0 +1,16 @@
+-- `wire::fill_le` meets its contract. After i turns: the lowest i bytes of x, then what was there; and what is left of x. Assumes nothing.
+use Prim.Native.Nat.{◌≤◌, ◌-◌}
+use mathlib.Core.Path.{◌≡◌, refl}
+use Rattle.std.proofs.Common.{arith}
+use lib.ListN.{length, length-set}
+use Rattle.std.proofs.Common.{rules}
+use Rattle.lists.specs.Splice.{filled, filled_none, filled_more, filled_all}
+use Rattle.model.specs.Bytes.{le}
+use Rattle.wire.specs.Write.{above, length_le, above_none, above_more, le_next}
+use Rattle.wire.proofs.fill_le.Given as goal
+
+abbrev pub invariant-loop-i : goal.invariant-loop-i
+invariant-loop-i l = (l.i ≤ length l.initial.out) × (length l.out ≡ length l.initial.out) × (l.out ≡ filled l.i (le (length l.initial.out) l.x) l.initial.out) × (l.rest ≡ above l.i l.x)
+
+abbrev pub decreases-loop-i : goal.decreases-loop-i
+decreases-loop-i l = length l.initial.out - l.i
