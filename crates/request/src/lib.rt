@@ -41,7 +41,7 @@ fn session(
     res: u32,
     aad: u32,
 ) -> model::Session
-    ensures* { λ x. ⌜ x ≡ record { service = service; algo = algo; direction = direction; keylen = keylen; result = res; aad = aad } ⌝ }
+    ensures { result ≡ record { service = service; algo = algo; direction = direction; keylen = keylen; result = res; aad = aad } }
 {
     model::Session {
         service,

@@ -1,0 +1,16 @@
+-- `request::create_part` meets its contract: the tests that led to a return say which case holds.
+use Rattle.std.proofs.Common.{arith}
+use Rattle.laws.specs.Chain.{choices}
+use Rattle.request.proofs.create_part.Goals as goal
+
+pub returns-then-service-eq-CIPHER : goal.returns-then-service-eq-CIPHER
+returns-then-service-eq-CIPHER c = record { value = search choices depth 12; bounded = omega arith }
+
+pub returns-then-service-eq-HASH : goal.returns-then-service-eq-HASH
+returns-then-service-eq-HASH c = record { value = search choices depth 12; bounded = omega arith }
+
+pub returns-then-service-eq-MAC : goal.returns-then-service-eq-MAC
+returns-then-service-eq-MAC c = record { value = search choices depth 12; bounded = omega arith }
+
+pub returns : goal.returns
+returns c = record { value = search choices depth 12; bounded = omega arith }

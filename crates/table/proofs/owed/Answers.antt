@@ -1,0 +1,29 @@
+-- The sum so far is that of the guests passed.
+use mathlib.Core.Path.{◌≡◌, ap, ◌∙◌}
+use mathlib.Core.Logic.{⊎_elim}
+use Prim.Native.Nat.{◌≤◌, ◌-◌, ◌*◌}
+use Rattle.std.proofs.Common.{arith}
+use Rattle.std.proofs.Common.{rules}
+use Rattle.lists.specs.Sum.{sum_to, except}
+use Rattle.laws.specs.Walk.{others_more, others_skip}
+use Rattle.model.specs.Session.{new_guest}
+use Rattle.table.specs.Narrow.{lacks}
+use Rattle.table.proofs.owed.Goals as goal
+
+pub loop-i-init : goal.loop-i-init
+unfolding sum_to
+loop-i-init c = omega arith
+
+pub loop-i-preserved : goal.loop-i-preserved
+unfolding new_guest
+loop-i-preserved c = let a = c.args in
+    let i = c.loop-i.i in
+    ⊎_elim
+    (λ w. omega (arith, others_more a.guest i (lacks a.t a.t2) w.0.taken))
+    (λ w. omega (arith, others_skip a.guest i (lacks a.t a.t2) w.0.left))
+    c.if-i-guest.branch
+
+pub returns : goal.returns
+returns c = let a = c.args in
+    let e : c.loop-i.i ≡ 8 = omega arith in
+    (c.loop-i.invariant.2 ∙ ap (λ i. sum_to i (except a.guest (lacks a.t a.t2))) e, omega arith)
