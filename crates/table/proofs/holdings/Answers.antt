@@ -1,6 +1,5 @@
 -- After i turns each guest's slots below i are counted, and the marks from slot i on are left.
 use mathlib.Core.Path.{◌≡◌, refl, ◌∙◌}
-use mathlib.Core.Logic.{⊎_elim}
 use mathlib.Core.Bool.{Bool, true, ◌&&◌}
 use Prim.Native.Nat.{ℕ, ◌≤◌, ◌<◌, ◌-◌}
 use Rattle.std.proofs.Common.{arith}
@@ -13,6 +12,7 @@ use Rattle.laws.specs.Bits.{From, from_start, from_here, from_next}
 use Rattle.laws.specs.Walk.{fields_of, Counts, counts_none, counts_le, counts_all, counts_skip, counts_more}
 use Rattle.model.specs.Session.{slot_of}
 use Rattle.table.proofs.holdings.Goals as goal
+use Rattle.table.proofs.holdings.Goals.{then-is_held-c, else-is_held-c}
 
 -- what the test tells of the owner
 inside : (m : Bool) (n : ℕ) → m && ltb n 8 ≡ true → n < 8
@@ -40,10 +40,10 @@ loop-i-preserved c = let turn = c.loop-i in
     let good = c.well_formed.0 in
     let held = c.is_held.ensures ∙ from_here _ _ _ turn.invariant.3 in
     let rest = from_next _ _ _ _ turn.invariant.3 c.moved_down-rest.ensures in
-    ⊎_elim
-    (λ w. rw w.3 (omega arith, length-set turn.n _ _ ∙ turn.invariant.1, counts_more _ good turn.n turn.i _ _ (omega arith) turn.invariant.2 held refl turn.invariant.1 w.0.taken, rest))
-    (λ w. rw w.1 (omega arith, turn.invariant.1, counts_skip _ good turn.n turn.i _ _ (omega arith) turn.invariant.2 held refl w.0.left, rest))
-    c.if-is_held-c.branch
+    elim c.if-is_held-c.branch [
+        then-is_held-c w ↦ rw w.n-is (omega arith, length-set turn.n _ _ ∙ turn.invariant.1, counts_more _ good turn.n turn.i _ _ (omega arith) turn.invariant.2 held refl turn.invariant.1 w.if-is_held-c.true, rest)
+      | else-is_held-c w ↦ rw w.n-is (omega arith, turn.invariant.1, counts_skip _ good turn.n turn.i _ _ (omega arith) turn.invariant.2 held refl w.if-is_held-c.false, rest)
+    ]
 
 pub returns : goal.returns
 returns c = counts_all c.args.t c.well_formed.0 c.loop-i.n c.loop-i.i (omega arith) c.loop-i.invariant.2

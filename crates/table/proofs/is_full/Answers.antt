@@ -22,5 +22,5 @@ returns c = let t = c.args.t in
     let counts = c.holdings-counts in
     let held = counts.ensures c.args.guest c.if-guest-ge8.false in
     let all = c.held_count-all.ensures ∙ sym (total_marks t (length_slots t c.well_formed.0)) in
-    let owed = c.owed-others.ensures.0 ∙ owed_by t counts.result c.args.guest counts.ensures in
+    let owed = c.owed-others.ensures.value ∙ owed_by t counts.result c.args.guest counts.ensures in
     rw (guest, held, all, owed, none_free t c.well_formed.0) refl

@@ -29,7 +29,8 @@ returns-then-not-was_given c = let w = c.was_given in
     let r = c.guest_at in
     let a = c.args in
     let never = live_never a.t a.guest a.number r.result w.result r.ensures w.ensures c.well_formed.0 c.if-not-was_given.true in
-    ended a.t c.well_formed.0 a.guest a.number _ _ c.nothing.ensures.at c.nothing.ensures.session never
+    let e = ended a.t c.well_formed.0 a.guest a.number _ _ c.nothing.ensures.at c.nothing.ensures.session never in
+    record { at = e.0; alive = e.1.0; session = e.1.1 }
 
 pub loop-i-init : goal.loop-i-init
 loop-i-init c = omega arith
@@ -44,7 +45,8 @@ returns-then-is_live c = let found = c.is_live in
     let e = live_given a.t a.guest a.number r.result w.result r.ensures w.ensures c.if-not-was_given.false (slot a.t i) found.result found.ensures in
     let here = slots_here a.t c.well_formed.0 (live a.t a.guest a.number) i found.result (omega arith) e c.if-is_live.true in
     let at : i ≡ live_at a.t a.guest a.number = omega arith in
-    slots_found a.t c.well_formed.0 a.guest a.number i _ _ at refl c.session_of.ensures
+    let e = slots_found a.t c.well_formed.0 a.guest a.number i _ _ at refl c.session_of.ensures in
+    record { at = e.0; alive = e.1.0; session = e.1.1 }
 
 pub loop-i-preserved : goal.loop-i-preserved
 unfolding slot_of
@@ -61,4 +63,5 @@ returns c = let a = c.args in
     let i = c.loop-i.i in
     let end = slots_searched a.t c.well_formed.0 (live a.t a.guest a.number) i (omega arith) in
     let at : 128 ≡ live_at a.t a.guest a.number = omega arith in
-    ended a.t c.well_formed.0 a.guest a.number _ _ c.nothing-2.ensures.at c.nothing-2.ensures.session at
+    let e = ended a.t c.well_formed.0 a.guest a.number _ _ c.nothing-2.ensures.at c.nothing-2.ensures.session at in
+    record { at = e.0; alive = e.1.0; session = e.1.1 }

@@ -5,4 +5,4 @@ use Rattle.model.specs.Session.{session_of}
 use Rattle.table.proofs.nothing.Goals as goal
 
 pub returns : goal.returns
-returns c = (refl, c.session_of.ensures ∙ ap session_of c.free_slot.ensures)
+returns c = record { at = refl; session = c.session_of.ensures ∙ ap session_of c.free_slot.ensures }

@@ -9,6 +9,7 @@ use Rattle.laws.specs.Walk.{others_more, others_skip}
 use Rattle.model.specs.Session.{new_guest}
 use Rattle.table.specs.Narrow.{lacks}
 use Rattle.table.proofs.owed.Goals as goal
+use Rattle.table.proofs.owed.Goals.{then-i-guest, else-i-guest}
 
 pub loop-i-init : goal.loop-i-init
 unfolding sum_to
@@ -16,14 +17,15 @@ loop-i-init c = omega arith
 
 pub loop-i-preserved : goal.loop-i-preserved
 unfolding new_guest
-loop-i-preserved c = let a = c.args in
+loop-i-preserved c =
+    let a = c.args in
     let i = c.loop-i.i in
-    ⊎_elim
-    (λ w. omega (arith, others_more a.guest i (lacks a.t a.t2) w.0.taken))
-    (λ w. omega (arith, others_skip a.guest i (lacks a.t a.t2) w.0.left))
-    c.if-i-guest.branch
+    elim c.if-i-guest.branch [
+        then-i-guest w ↦ omega (arith, w.unmet-sum.ensures.value, w.unmet-sum.ensures.bounded, w.sum-is, others_more a.guest i (lacks a.guests a.held) w.if-i-guest.true)
+      | else-i-guest w ↦ omega (arith, w.sum-is, others_skip a.guest i (lacks a.guests a.held) w.if-i-guest.false)
+    ]
 
 pub returns : goal.returns
 returns c = let a = c.args in
     let e : c.loop-i.i ≡ 8 = omega arith in
-    (c.loop-i.invariant.2 ∙ ap (λ i. sum_to i (except a.guest (lacks a.t a.t2))) e, omega arith)
+    record { value = c.loop-i.invariant.2 ∙ ap (λ i. sum_to i (except a.guest (lacks a.guests a.held))) e; bounded = omega arith }

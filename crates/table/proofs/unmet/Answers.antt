@@ -4,7 +4,7 @@ use Rattle.std.proofs.Common.{rules}
 use Rattle.table.proofs.unmet.Goals as goal
 
 pub returns-then-reserve-held : goal.returns-then-reserve-held
-returns-then-reserve-held c = (omega arith, omega arith)
+returns-then-reserve-held c = record { value = omega arith; bounded = omega arith }
 
 pub returns : goal.returns
-returns c = (omega arith, omega arith)
+returns c = record { value = omega arith; bounded = omega arith }

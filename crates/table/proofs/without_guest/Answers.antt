@@ -1,12 +1,12 @@
 -- After i turns the guest's slots below i are freed.
 use mathlib.Core.Path.{◌≡◌, ◌∙◌}
-use mathlib.Core.Logic.{⊎_elim}
 use Prim.Native.Nat.{◌≤◌, ◌-◌}
 use Rattle.std.proofs.Common.{arith}
 use Rattle.std.proofs.Common.{rules}
 use Rattle.laws.specs.Walk.{freed_below, freed_none, freed_all, freed_more, freed_skip}
 use Rattle.model.specs.Session.{slot_of}
 use Rattle.table.proofs.without_guest.Goals as goal
+use Rattle.table.proofs.without_guest.Goals.{then-owned_by, else-owned_by}
 
 pub loop-i-init : goal.loop-i-init
 loop-i-init c = (omega arith, freed_none _ c.well_formed.0 _)
@@ -18,10 +18,10 @@ loop-i-preserved c = let inv = c.loop-i.invariant in
     let owned = c.owned_by in
     let clear = c.free_slot-f.ensures in
     let good = c.well_formed.0 in
-    ⊎_elim
-    (λ w. (omega arith, w.3 ∙ freed_more _ good _ _ _ _ _ inv.1 held.ensures owned.ensures _ _ w.2.ensures clear w.0.taken))
-    (λ w. (omega arith, w.1 ∙ freed_skip _ good _ _ _ _ _ inv.1 held.ensures owned.ensures w.0.left))
-    c.if-owned_by.branch
+    elim c.if-owned_by.branch [
+        then-owned_by w ↦ (omega arith, w.next-is ∙ freed_more _ good _ _ _ _ _ inv.1 held.ensures owned.ensures _ _ w.with_mark-next.ensures clear w.if-owned_by.true)
+      | else-owned_by w ↦ (omega arith, w.next-is ∙ freed_skip _ good _ _ _ _ _ inv.1 held.ensures owned.ensures w.if-owned_by.false)
+    ]
 
 pub returns : goal.returns
 returns c = c.loop-i.invariant.1 ∙ freed_all _ c.well_formed.0 _ _ (omega arith)
