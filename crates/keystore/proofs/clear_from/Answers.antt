@@ -15,10 +15,10 @@ loop-i-init c = (omega arith, refl, kept_front _ _)
 
 pub loop-i-preserved : goal.loop-i-preserved
 loop-i-preserved c = let inv = c.loop-i.invariant in (
-    omega arith,
-    simp length-set inv.1,
-    filled_more _ _ _ _ 0 _ (length_padded _ _) (omega arith) inv.2 (zero_behind _ _ _ _ inv.0),
-    )
+  omega arith,
+  simp length-set inv.1,
+  filled_more _ _ _ _ 0 _ (length_padded _ _) (omega arith) inv.2 (zero_behind _ _ _ _ inv.0),
+)
 
 pub returns : goal.returns
 returns c = filled_all _ _ _ _ (length_padded _ _) (omega arith) c.loop-i.invariant.2

@@ -25,10 +25,10 @@ pub loop-i-preserved : goal.loop-i-preserved
 unfolding slot_of
 loop-i-preserved c = let turn = c.loop-i in
     let slots : length c.args.t.slots ≡ 128 = length_slots c.args.t c.well_formed.1.0 in (
-    omega arith,
-    omega arith,
-    clear_more c.args.t _ turn.i _ c.args.store.now _ _ slots (omega arith) (omega arith) turn.invariant.1 turn.invariant.2
-    c.is_held.ensures c.clear_owned.ensures,
+      omega arith,
+      omega arith,
+      clear_more c.args.t _ turn.i _ c.args.store.now _ _ slots (omega arith) (omega arith) turn.invariant.1 turn.invariant.2
+          c.is_held.ensures c.clear_owned.ensures,
     )
 
 pub returns : goal.returns

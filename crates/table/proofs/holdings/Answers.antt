@@ -41,7 +41,7 @@ loop-i-preserved c = let turn = c.loop-i in
     let held = c.is_held.ensures ∙ from_here _ _ _ turn.invariant.3 in
     let rest = from_next _ _ _ _ turn.invariant.3 c.moved_down-rest.ensures in
     elim c.if-is_held-c.branch [
-        then-is_held-c w ↦ rw w.n-is (omega arith, length-set turn.n _ _ ∙ turn.invariant.1, counts_more _ good turn.n turn.i _ _ (omega arith) turn.invariant.2 held refl turn.invariant.1 w.if-is_held-c.true, rest)
+      | then-is_held-c w ↦ rw w.n-is (omega arith, length-set turn.n _ _ ∙ turn.invariant.1, counts_more _ good turn.n turn.i _ _ (omega arith) turn.invariant.2 held refl turn.invariant.1 w.if-is_held-c.true, rest)
       | else-is_held-c w ↦ rw w.n-is (omega arith, turn.invariant.1, counts_skip _ good turn.n turn.i _ _ (omega arith) turn.invariant.2 held refl w.if-is_held-c.false, rest)
     ]
 

@@ -21,7 +21,7 @@ loop-i-preserved c =
     let a = c.args in
     let i = c.loop-i.i in
     elim c.if-i-guest.branch [
-        then-i-guest w ↦ omega (arith, w.unmet-sum.ensures.value, w.unmet-sum.ensures.bounded, w.sum-is, others_more a.guest i (lacks a.guests a.held) w.if-i-guest.true)
+      | then-i-guest w ↦ omega (arith, w.unmet-sum.ensures.value, w.unmet-sum.ensures.bounded, w.sum-is, others_more a.guest i (lacks a.guests a.held) w.if-i-guest.true)
       | else-i-guest w ↦ omega (arith, w.sum-is, others_skip a.guest i (lacks a.guests a.held) w.if-i-guest.false)
     ]
 

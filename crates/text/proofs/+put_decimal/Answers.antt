@@ -1,11 +1,10 @@
-use Rattle.std.proofs.Common.{rules, ◌≤◌, ◌≡◌, [], ◌∷◌, length, take, ℕ, ◌+◌, ◌-◌, ◌*◌, ◌<◌, ◌/◌, ◌%◌, Bool, true, false, nat_eq, nat_lt, List, ◌++◌, slice_index_or, slice_set, bit_and, bit_or, Fits, w8, w32, w64, Bor, MutBor}
-use Rattle.text.specs.Lines.{decimal, line, lines_from, text, Puts}
+-- `text::put_decimal` meets its contract: the digits above the last are fewer, since the number is less. Assumes nothing.
+use Rattle.std.proofs.Common.{arith}
+use Rattle.text.specs.Laws.{puts_digit, puts_last}
 use Rattle.text.proofs.+put_decimal.Goals as goal
 
--- src/lib.rt:36:9
 pub returns-then-n-lt10 : goal.returns-then-n-lt10
-returns-then-n-lt10 t c = ?
+returns-then-n-lt10 t c = puts_digit _ _ _ _ _ (omega (arith, c.if-n-lt10.true)) c.put.ensures
 
--- src/lib.rt:32:1
 pub returns : goal.returns
-returns t c = ?
+returns t c = puts_last _ _ _ _ _ _ _ (omega (arith, c.if-n-lt10.false)) c.put_decimal-last.ensures c.put-2.ensures

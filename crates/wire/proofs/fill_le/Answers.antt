@@ -26,11 +26,11 @@ loop-i-smaller c = omega arith
 
 pub loop-i-preserved : goal.loop-i-preserved
 loop-i-preserved c = let inv = c.loop-i.invariant in (
-    omega arith,
-    simp length-set inv.1,
-    filled_more _ _ _ _ 0 _ (length_le _ _) (omega arith) inv.2 (le_next _ _ _ _ (omega arith) inv.3),
-    above_more _ _ _ inv.3,
-    )
+  omega arith,
+  simp length-set inv.1,
+  filled_more _ _ _ _ 0 _ (length_le _ _) (omega arith) inv.2 (le_next _ _ _ _ (omega arith) inv.3),
+  above_more _ _ _ inv.3,
+)
 
 pub returns : goal.returns
 returns c = filled_all _ _ _ _ (length_le _ _) (omega arith) c.loop-i.invariant.2

@@ -1,0 +1,7 @@
+-- `vcrypto::part_span` meets its contract.
+use Rattle.std.proofs.Common.{rules}
+use Rattle.vcrypto.specs.SpanLaws.{field_located}
+use Rattle.vcrypto.proofs.part_span.Goals as goal
+
+pub returns : goal.returns
+returns c = search field_located
