@@ -179,8 +179,8 @@ printed_cut n h s = go (leb (length s) n) refl
         rw (long_bad (take n s) (omega (arith, length-take-le n s (omega arith))), long_bad s (omega arith))
 
 -- what the contract of `input` says of a buffer of n bytes, whose length is m
-pub input_enough : (m n : ℕ) → n ≡ m → 65537 ≤ n → (n ≡ m) × ((s : List ℕ) → printed (take m s) ≡ printed s)
-input_enough m n e h = (e, printed_cut m (omega arith))
+pub input_enough : (m n : ℕ) → n ≡ m → 65537 ≤ n → record { size : n ≡ m; enough : (s : List ℕ) → printed (take m s) ≡ printed s }
+input_enough m n e h = record { size = e; enough = printed_cut m (omega arith) }
 
 module _ (s before after : List ℕ) (end size : ℕ) (told : size ≡ end) where
   -- what `transcript` gives

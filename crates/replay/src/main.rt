@@ -1,15 +1,16 @@
-// Replays a trace from standard input: a line for each record, then the counts; or `bad trace`. Only `main` reads and writes.
+// Replays a trace from standard input: a line for each record, then the counts; or `bad trace`. Only `replay` reads and writes.
 #![tactic(auto)]
 
-ghost use Rattle.std.specs.Prelude.{ℕ, ◌≤◌, ◌≡◌, List, length, take, replicate};
+ghost use Rattle.std.specs.Prelude.{ℕ, ◌<◌, ◌≤◌, ◌≡◌, List, length, take, replicate, IfOk, IfSome, OnOk};
+ghost use Rattle.std.specs.Io.KnownBytes.{Appends, Consumes, IsAtEnd};
 ghost use Rattle.model.specs.Device.{reply, next, world};
 ghost use Rattle.trace.specs.Replay.{good_trace, request_of, blank, started_on, shown};
 ghost use Rattle.tally.specs.Count.{tally_of};
 ghost use Rattle.replay.specs.Printed.{printed};
 
 use device::Reply;
-use libc::{STDIN_FILENO, STDOUT_FILENO};
 use model::Table;
+use std::io::{self, Read, Write};
 use tally::Tally;
 use trace::{Opened, Record};
 
@@ -152,7 +153,7 @@ fn run(s: &[u8]) -> Ran
     }
 }
 
-// The whole text that is printed of a trace, whatever its bytes. It is made here and not in `main`, which has no contract.
+// The whole text that is printed of a trace, whatever its bytes.
 fn transcript(s: &[u8]) -> Output
     ensures within { result.size ≤ length result.text }
     ensures printed { take result.size result.text ≡ printed s.now }
@@ -170,9 +171,34 @@ fn transcript(s: &[u8]) -> Output
     Output { size, text }
 }
 
-fn main() {
+// Reads until the buffer is full or the input ends. So many bytes at its front were read.
+fn read_full<R: Read>(reader: &mut R, buf: &mut [u8]) -> io::Result<usize>
+    ensures within { IfOk result (λ n. n ≤ length buf.new) }
+    ensures front { IfOk result (λ n. Consumes (R.remaining reader.old) (R.remaining reader.new) (take n buf.new)) }
+    ensures whole { IfOk result (λ n. n < length buf.new → IsAtEnd (R.remaining reader.new)) }
+{
+    let mut end = 0;
+    while end < buf.len() {
+        let n = reader.read(&mut buf[end..])?;
+        if n == 0 {
+            break;
+        }
+        end += n;
+    }
+    Ok(end)
+}
+
+// Writes all that is printed of the trace that is read. Of standard input and output no contract can say the bytes, and of a reader and a writer in memory
+// this one does.
+fn replay<R: Read, W: Write>(reader: &mut R, writer: &mut W) -> io::Result<()>
+    ensures { OnOk result (IfSome (R.remaining reader.old) (λ s. Appends (W.contents writer.old) (W.contents writer.new) (printed s))) }
+{
     let mut bytes = input();
-    let n = io::read_full(STDIN_FILENO, &mut bytes);
+    let n = read_full(reader, &mut bytes)?;
     let Output { size, text } = transcript(&bytes[..n]);
-    io::write_all(STDOUT_FILENO, &text[..size]);
+    writer.write_all(&text[..size])
+}
+
+fn main(rt: HostRuntime) -> io::Result<()> {
+    replay(&mut rt.stdin(), &mut rt.stdout())
 }
