@@ -8,7 +8,7 @@ use Rattle.model.specs.Algorithm.{known, key_ok, result_ok, iv_ok, source_ok, de
 use Rattle.model.specs.Session.{World, slot_of, bits_of, word_of, marks_of, occupied_by, slots_of, with_slots, new_guest, key_area, area_of, bit, offers, direction_ok, lengths_ok, accepts}
 use Rattle.model.specs.View.{present, find, no_room, full}
 use Rattle.model.specs.Act.{with_slot, without, with_guest, restarted, numbered, table_after, store_after, with_area, wipe}
-use Rattle.model.specs.Setup.{size_limit, config_of, only_bits, config_ok, shares_ok, set_up_answer, fresh_table, set_up}
+use Rattle.model.specs.Setup.{config_of, only_bits, config_ok, shares_ok, set_up_answer, fresh_table, set_up}
 use Rattle.model.specs.Control.{opcode_ok, asked, new_entry, control_checks}
 use Rattle.model.specs.Data.{operation_ok, lengths, fits}
 use Rattle.model.specs.Device.{Attach, checks_of, outcome, checks, act, reply, next}

@@ -12,7 +12,7 @@ use Rattle.model.specs.Control.{new_entry, form_checks, numbers_left, create_che
 use Rattle.model.specs.Device.{Request, Attach, Control, Admit, Part, KeyAnswer, Key, Finish, checks_of, asks, outcome, checks, act, reply}
 use Rattle.model.specs.Calls.{WellFormed}
 use Rattle.history.specs.Apply.{Creates}
-use Rattle.history.specs.Learn.{gate_answer}
+use Rattle.history.proofs.Learn.{gate_answer}
 use Rattle.laws.specs.Kind.{by_kind}
 use Rattle.laws.specs.Judge.{Passed, first_passed, passed_first, passed_both, judge_passed, create_passed}
 use Rattle.laws.specs.Effect.{act_first}

@@ -1,16 +1,7 @@
 pub mod Statement
-pub mod Demand1
-pub mod Demand2
-pub mod Outcomes
-pub mod Aead
 pub mod Checks
 pub mod Instance
 pub mod Start
 pub mod Steps
 pub mod Formed
-pub mod Learn
-pub mod History
-pub mod Demand3
 pub mod ZeroRule
-pub mod Excluded
-pub mod Clear

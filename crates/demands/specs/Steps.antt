@@ -16,7 +16,8 @@ use Rattle.history.specs.Lawful.{Ready}
 use Rattle.history.specs.Invariant.{Inv}
 use Rattle.history.specs.Rules as Rules
 use Rattle.history.specs.Rules.{ready_act, inv_next}
-use Rattle.follows.specs.Follows.{state_of, full_slots, view_slots, follows}
+use Rattle.follows.specs.Follows.{state_of, full_slots, view_slots}
+use Rattle.follows.proofs.Follows.{follows}
 use Rattle.demands.specs.Instance.{decide, decided, rules}
 
 -- the state after a call

@@ -5,8 +5,5 @@ pub mod Lawful
 pub mod Views
 pub mod Invariant
 pub mod Rules
-pub mod Learn
-pub mod Alone
 pub mod Past
-pub mod Demand
 pub mod Zero

@@ -12,8 +12,8 @@ use Rattle.model.specs.declared.Config.{Config}
 use Rattle.model.specs.declared.Guest.{Guest}
 use Rattle.model.specs.declared.Table.{Table}
 use Rattle.model.specs.Session.{slot_count, Place, Entry, free, holding, slot_of, place_of, bits_of, marks_of, occupied_by, marked, slots_of, with_slots, place_at, guest_at}
-use Rattle.model.specs.View.{is_held, total, free_at, live_at}
-use Rattle.model.specs.Act.{attach, create, destroy, with_slot, released, without, with_guest, restarted, numbered, table_after}
+use Rattle.model.specs.View.{is_held, total, free_at}
+use Rattle.model.specs.Act.{with_slot, released, without, with_guest}
 use Rattle.model.specs.Setup.{fresh_table}
 use Rattle.laws.specs.Bits.{length_marks, zip_marks, occupied_marks}
 
@@ -29,15 +29,15 @@ slots_kept t l h =
     zip_marks place_of (map is_held l) (map slot_of l) (omega (arith, length-map l is_held, length-map l slot_of)) (omega (arith, length-map l slot_of))
     ∙ zip_maps place_of is_held slot_of (λ c. refl) l
 
-slots_with : (t : Table) (i : ℕ) (c : Place) → slots_of (with_slot t i c) ≡ set (slots_of t) i c
+pub slots_with : (t : Table) (i : ℕ) (c : Place) → slots_of (with_slot t i c) ≡ set (slots_of t) i c
 unfolding with_slot
 slots_with t i c = slots_kept t (set (slots_of t) i c) (omega (arith, length-set (slots_of t) i c, slots_le t))
 
-slots_without : (t : Table) (g : ℕ) → slots_of (without t g) ≡ map (released g) (slots_of t)
+pub slots_without : (t : Table) (g : ℕ) → slots_of (without t g) ≡ map (released g) (slots_of t)
 unfolding without
 slots_without t g = slots_kept t (map (released g) (slots_of t)) (omega (arith, length-map (slots_of t) (released g), slots_le t))
 
-slots_guest : (t : Table) (g : ℕ) (r : Guest) → slots_of (with_guest t g r) ≡ slots_of t
+pub slots_guest : (t : Table) (g : ℕ) (r : Guest) → slots_of (with_guest t g r) ≡ slots_of t
 unfolding slots_of with_guest
 slots_guest t g r = refl
 
@@ -46,15 +46,15 @@ unfolding slots_of fresh_table slot_of marks_of bits_of
 slots_fresh k reserves caps = refl
 
 -- the rest of the table stays
-rest_with : (t : Table) (i : ℕ) (c : Place) → ((with_slot t i c).config ≡ t.config) × ((with_slot t i c).guests ≡ t.guests)
+pub rest_with : (t : Table) (i : ℕ) (c : Place) → ((with_slot t i c).config ≡ t.config) × ((with_slot t i c).guests ≡ t.guests)
 unfolding with_slot with_slots
 rest_with t i c = (refl, refl)
 
-rest_without : (t : Table) (g : ℕ) → ((without t g).config ≡ t.config) × ((without t g).guests ≡ t.guests)
+pub rest_without : (t : Table) (g : ℕ) → ((without t g).config ≡ t.config) × ((without t g).guests ≡ t.guests)
 unfolding without with_slots
 rest_without t g = (refl, refl)
 
-rest_guest : (t : Table) (g : ℕ) (r : Guest) → ((with_guest t g r).config ≡ t.config) × ((with_guest t g r).guests ≡ set t.guests g r)
+pub rest_guest : (t : Table) (g : ℕ) (r : Guest) → ((with_guest t g r).config ≡ t.config) × ((with_guest t g r).guests ≡ set t.guests g r)
 unfolding with_guest
 rest_guest t g r = (refl, refl)
 
@@ -63,29 +63,9 @@ rest_guest t g r = (refl, refl)
 abbrev pub Parts : Table → Config → List Guest → List Place → Type 0
 Parts t k r l = (t.config ≡ k) × (t.guests ≡ r) × (slots_of t ≡ l)
 
-recorded : (t : Table) (k : Config) (r : List Guest) (l : List Place) (g : ℕ) (q : Guest) → Parts t k r l → Parts (with_guest t g q) k (set r g q) l
-recorded t k r l g q p = ((rest_guest t g q).0 ∙ p.0, (rest_guest t g q).1 ∙ ap (λ (m : List Guest). set m g q) p.1, slots_guest t g q ∙ p.2)
-
-placed : (t : Table) (i : ℕ) (c : Place) → Parts (with_slot t i c) t.config t.guests (set (slots_of t) i c)
-placed t i c = ((rest_with t i c).0, (rest_with t i c).1, slots_with t i c)
-
-pub after_attach : (t : Table) (g : ℕ)
-    → Parts (table_after t g attach) t.config (set t.guests g (restarted (guest_at t g))) (map (released g) (slots_of t))
-unfolding table_after
-after_attach t g = recorded (without t g) _ _ _ g (restarted (guest_at t g)) ((rest_without t g).0, (rest_without t g).1, slots_without t g)
-
 -- the slot of a new session
 abbrev pub new_place : Table → ℕ → Entry → Place
 new_place t g e = holding g (suc (guest_at t g).last) e.session
-
-pub after_create : (t : Table) (g : ℕ) (e : Entry)
-    → Parts (table_after t g (create e)) t.config (set t.guests g (numbered (guest_at t g))) (set (slots_of t) (free_at t) (new_place t g e))
-unfolding table_after
-after_create t g e = recorded (with_slot t (free_at t) (new_place t g e)) _ _ _ g (numbered (guest_at t g)) (placed t (free_at t) (new_place t g e))
-
-pub after_destroy : (t : Table) (g n : ℕ) → Parts (table_after t g (destroy n)) t.config t.guests (set (slots_of t) (live_at t g n) free)
-unfolding table_after
-after_destroy t g n = placed t (live_at t g n) free
 
 -- ---- a table of 128 slots, as the code reads it
 

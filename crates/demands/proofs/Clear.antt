@@ -13,12 +13,13 @@ use Rattle.lists.specs.Sum.{sum_to, except}
 use Rattle.model.specs.declared.Guest.{Guest}
 use Rattle.model.specs.declared.Table.{Table}
 use Rattle.model.specs.Session.{World, Place, free, slots_of, with_slots, area_size, place_at, new_guest, guest_at, area, zeros, holding, slot_of, occupied_by}
-use Rattle.model.specs.View.{is_held, is_free, owned, given, live, free_at, live_at, holds, no_room, full, entry_at, find, view, setting}
+use Rattle.model.specs.View.{is_held, is_free, owned, given, live, free_at, live_at, no_room, full, entry_at, find, view, setting}
 use Rattle.model.specs.Act.{Act, refuse, pass, attach, create, destroy, released, restarted, numbered, table_after, store_after, with_area, wipe, after, judge}
 use Rattle.model.specs.Answer.{first_fail}
 use Rattle.model.specs.Device.{Request, checks_of, asks, outcome, checks, act, reply, next}
 use Rattle.model.specs.Calls.{Call, run, outcomes}
-use Rattle.laws.specs.Slots.{slots_kept, slots_le, new_place, after_attach, after_create, after_destroy}
+use Rattle.laws.specs.Slots.{slots_kept, slots_le, new_place}
+use Rattle.laws.proofs.Slots.{after_attach, after_create, after_destroy}
 use Rattle.laws.specs.Found.{found_live}
 use Rattle.demands.specs.Statement.{scrubbed, scrubbed_world, Alike, ClearSlots}
 

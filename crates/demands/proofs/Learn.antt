@@ -13,10 +13,10 @@ use Rattle.history.specs.Cells.{State}
 use Rattle.history.specs.Apply.{Creates}
 use Rattle.history.specs.Invariant.{Inv}
 use Rattle.history.specs.Rules as Rules
-use Rattle.history.specs.Learn as Learn
-use Rattle.history.specs.Learn.{Parting}
-use Rattle.history.specs.Alone.{Modest}
-use Rattle.history.specs.Demand.{demand}
+use Rattle.history.proofs.Learn as Learn
+use Rattle.history.proofs.Learn.{Parting}
+use Rattle.history.proofs.Alone.{Modest}
+use Rattle.history.proofs.Demand.{demand}
 use Rattle.follows.specs.Follows.{state_of, holds_slots}
 use Rattle.demands.specs.Statement.{Within, RefusedForRoom, Same, FirstDifference, Learns}
 use Rattle.demands.specs.Instance.{decide, rules}

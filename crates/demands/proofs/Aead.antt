@@ -17,7 +17,7 @@ use Rattle.model.specs.Data.{number, direction_of, lengths, fits}
 use Rattle.model.specs.Device.{Admit, checks, reply}
 use Rattle.laws.specs.Judge.{Passed, holds_at, passed_both}
 use Rattle.demands.specs.Statement.{named, ccm_bound, AllElse, AeadLengths}
-use Rattle.demands.specs.Demand2.{demand2, checks_by, admit_checks, accepted}
+use Rattle.demands.proofs.Demand2.{demand2, checks_by, admit_checks, accepted}
 
 -- the rules on what is written and on the payload, of lengths that fit a session
 rules_of : (x : Session) (n : Lengths) → fits x n ≡ true → (written_ok x.service x.direction n ≡ true) × (payload_ok x.service x.algo x.direction n ≡ true)

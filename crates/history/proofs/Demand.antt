@@ -9,9 +9,10 @@ use Rattle.history.specs.Good.{free_owns}
 use Rattle.history.specs.Invariant.{Inv, Fresh, inv_fresh, none_held}
 use Rattle.history.specs.Rules.{Rules, Call, wish, run, inv_run, shares_run}
 use Rattle.history.specs.Apply.{Creates}
-use Rattle.history.specs.Learn.{Same}
-use Rattle.history.specs.Alone.{Modest, grant, modest_same}
-use Rattle.history.specs.Past.{Told, past, told}
+use Rattle.history.proofs.Learn.{Same}
+use Rattle.history.proofs.Alone.{Modest, grant, modest_same}
+use Rattle.history.specs.Past.{Told, past}
+use Rattle.history.proofs.Past.{told}
 
 module _ (R : Rules) (s : State) where
   pub record Demand (cs : List (Call R)) : Type 0 where

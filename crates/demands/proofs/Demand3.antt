@@ -4,7 +4,7 @@ use Rattle.std.specs.Prelude.{◌≡◌, refl, Bool, true, false, cond, List, []
 use Rattle.std.proofs.Common.{sym, ap, ◌∙◌, subst, arith}
 use Rattle.model.specs.Answer.{ok}
 use Rattle.model.specs.Session.{last_number, World, guest_at}
-use Rattle.model.specs.View.{view, holds, total}
+use Rattle.model.specs.View.{view, holds}
 use Rattle.model.specs.Setup.{set_up}
 use Rattle.model.specs.Device.{Request, Control, reply}
 use Rattle.model.specs.Calls.{Call, Past, begun, past_of, run, only, WellFormed}
@@ -13,15 +13,15 @@ use Rattle.history.specs.Invariant.{Inv}
 use Rattle.history.specs.Rules as Rules
 use Rattle.history.specs.Apply.{Creates}
 use Rattle.history.specs.Past.{Told}
-use Rattle.history.specs.Demand.{Demand, demand}
+use Rattle.history.proofs.Demand.{Demand, demand}
 use Rattle.follows.specs.Follows.{state_of, holds_slots, total_slots}
 use Rattle.demands.specs.Statement.{Demand3}
 use Rattle.demands.specs.Instance.{rules}
 use Rattle.demands.specs.Start.{fresh, started}
 use Rattle.demands.specs.Steps.{same_run, run_view, run_full, run_wish}
 use Rattle.demands.specs.Formed.{formed_creates, create_answer}
-use Rattle.demands.specs.Learn.{learns_nothing}
-use Rattle.demands.specs.History.{same_past}
+use Rattle.demands.proofs.Learn.{learns_nothing}
+use Rattle.demands.proofs.History.{same_past}
 
 -- the calls of one guest are its own
 only_only : (g : ℕ) (cs : List (Call Request)) → only g (only g cs) ≡ only g cs

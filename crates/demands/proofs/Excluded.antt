@@ -10,10 +10,10 @@ use Rattle.model.specs.Act.{released, table_after}
 use Rattle.model.specs.Setup.{set_up}
 use Rattle.model.specs.Device.{Request, Attach, Control, Admit, outcome, checks_of, checks, reply, next}
 use Rattle.model.specs.Calls.{Call, noted, past, run, WellFormed}
-use Rattle.laws.specs.Slots.{after_attach}
+use Rattle.laws.proofs.Slots.{after_attach}
 use Rattle.laws.specs.Effect.{granted_next}
-use Rattle.demands.specs.Demand1.{demand1}
-use Rattle.demands.specs.Demand3.{demand3}
+use Rattle.demands.proofs.Demand1.{demand1}
+use Rattle.demands.proofs.Demand3.{demand3}
 
 -- ---- a device refusing every attach: it is granted to every guest up to 7, whatever the table
 

@@ -13,7 +13,7 @@ use Rattle.laws.specs.Kind.{by_kind}
 use Rattle.laws.specs.Judge.{Passed, passed_first, holds_at}
 use Rattle.laws.specs.Effect.{checks_passed}
 use Rattle.demands.specs.Statement.{Given, NotGiven, Gets}
-use Rattle.demands.specs.Demand1.{last_byte}
+use Rattle.demands.proofs.Demand1.{last_byte}
 
 -- ---- a call whose checks all hold
 

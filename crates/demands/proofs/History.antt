@@ -20,7 +20,7 @@ use Rattle.laws.specs.Numbers.{le64_le}
 use Rattle.laws.specs.Kind.{by_kind}
 use Rattle.laws.specs.Judge.{Passed, create_passed}
 use Rattle.laws.specs.Effect.{act_first, act_granted, checks_passed}
-use Rattle.demands.specs.Outcomes.{control_room}
+use Rattle.demands.proofs.Outcomes.{control_room}
 use Rattle.demands.specs.Instance.{rules}
 use Rattle.demands.specs.Steps.{same_act, same_next, inv_step}
 

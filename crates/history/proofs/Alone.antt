@@ -17,7 +17,7 @@ use Rattle.history.specs.Apply.{Creates}
 use Rattle.history.specs.Lawful.{Lawful}
 use Rattle.history.specs.Invariant.{Inv, below_eight}
 use Rattle.history.specs.Rules.{Rules, Call, wish, next, run}
-use Rattle.history.specs.Learn.{Alike, Same, Parting, Learns, call, same_wish, learn}
+use Rattle.history.proofs.Learn.{Alike, Same, Parting, Learns, call, same_wish, learn}
 
 -- ---- room for a guest below its reserve
 

@@ -1,0 +1,10 @@
+pub mod Outcomes
+pub mod Aead
+pub mod Learn
+pub mod History
+pub mod Demand1
+pub mod Demand2
+pub mod Demand3
+pub mod Excluded
+pub mod Clear
+pub mod ZeroRule

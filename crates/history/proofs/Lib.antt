@@ -1,0 +1,4 @@
+pub mod Learn
+pub mod Alone
+pub mod Demand
+pub mod Past
