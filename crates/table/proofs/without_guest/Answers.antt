@@ -19,7 +19,7 @@ loop-i-preserved c = let inv = c.loop-i.invariant in
     let clear = c.free_slot-f.ensures in
     let good = c.well_formed.0 in
     elim c.if-owned_by.branch [
-      | then-owned_by w ↦ (omega arith, w.next-is ∙ freed_more _ good _ _ _ _ _ inv.1 held.ensures owned.ensures _ _ w.with_mark-next.ensures clear w.if-owned_by.true)
+      | then-owned_by w ↦ (omega arith, w.next-is ∙ search (freed_more, good, inv.1, held.ensures, owned.ensures, clear, w.if-owned_by.true, rules))
       | else-owned_by w ↦ (omega arith, w.next-is ∙ freed_skip _ good _ _ _ _ _ inv.1 held.ensures owned.ensures w.if-owned_by.false)
     ]
 
