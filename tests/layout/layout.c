@@ -58,7 +58,7 @@ static size_t mask_of(const size_t *bits, size_t n)
 /* A field of the configuration, read by the definition and declared in vcrypto.h. */
 #define CONFIG(ours, theirs)                                                                                         \
     do {                                                                                                             \
-        FIELD(configOf_##ours, 0, virtio_crypto_config, theirs);                                                     \
+        FIELD(config_of_##ours, 0, virtio_crypto_config, theirs);                                                    \
         same("vcrypto_config." #ours, offsetof(struct vcrypto_config, ours), offsetof(struct virtio_crypto_config, theirs)); \
         same("vcrypto_config." #ours, SIZE_OF(vcrypto_config, ours), SIZE_OF(virtio_crypto_config, theirs));         \
     } while (0)
@@ -79,13 +79,13 @@ static void configuration(void)
     /* 001 has no asymmetric service, and this field is reserved in it */
     CONFIG(reserved, akcipher_algo);
     CONFIG(size, max_size);
-    NUMBER(setUpOrder, 0, sizeof(struct virtio_crypto_config));
+    NUMBER(set_up_order, 0, sizeof(struct virtio_crypto_config));
     same("VCRYPTO_CONFIG_SIZE", VCRYPTO_CONFIG_SIZE, sizeof(struct virtio_crypto_config));
-    NUMBER(configOk, 0, VIRTIO_CRYPTO_S_HW_READY);
+    NUMBER(config_ok, 0, VIRTIO_CRYPTO_S_HW_READY);
     CONSTANT(READY, VIRTIO_CRYPTO_S_HW_READY);
-    LIST(sizeLimit, VCRYPTO_SIZE_LIMIT);
+    LIST(size_limit, VCRYPTO_SIZE_LIMIT);
     /* status 1, queues 1 to 8, key limits */
-    LIST(configOk, VCRYPTO_READY, 1, VCRYPTO_QUEUE_LIMIT, VCRYPTO_KEY_LIMIT, VCRYPTO_KEY_LIMIT, 0);
+    LIST(config_ok, VCRYPTO_READY, 1, VCRYPTO_QUEUE_LIMIT, VCRYPTO_KEY_LIMIT, VCRYPTO_KEY_LIMIT, 0);
 }
 
 static void control_requests(void)
@@ -94,8 +94,8 @@ static void control_requests(void)
 
     /* flag at 8 is read by nobody, nor the field at 12: reserved in 001, queue_id in the kernel's header */
     FIELD(opcode, 0, virtio_crypto_ctrl_header, opcode);
-    FIELD(formChecks, 0, virtio_crypto_ctrl_header, algo);
-    NUMBER(newEntry, 0, sizeof(struct virtio_crypto_ctrl_header));
+    FIELD(form_checks, 0, virtio_crypto_ctrl_header, algo);
+    NUMBER(new_entry, 0, sizeof(struct virtio_crypto_ctrl_header));
     same("fixed part of a control request", sizeof(struct virtio_crypto_ctrl_header), part);
     CONSTANT(CONTROL_HEADER, sizeof(struct virtio_crypto_ctrl_header));
 
@@ -103,8 +103,8 @@ static void control_requests(void)
     FIELD(asked_1_algo, part, virtio_crypto_sym_create_session_req, u.cipher.para.algo);
     FIELD(asked_1_keylen, part, virtio_crypto_sym_create_session_req, u.cipher.para.keylen);
     FIELD(asked_1_direction, part, virtio_crypto_sym_create_session_req, u.cipher.para.op);
-    FIELD(plainCreate, part, virtio_crypto_sym_create_session_req, op_type);
-    LIST(plainCreate, VIRTIO_CRYPTO_SYM_OP_CIPHER);
+    FIELD(plain_create, part, virtio_crypto_sym_create_session_req, op_type);
+    LIST(plain_create, VIRTIO_CRYPTO_SYM_OP_CIPHER);
     CONSTANT(OP_CIPHER, VIRTIO_CRYPTO_SYM_OP_CIPHER);
 
     FIELD(asked_2_algo, part, virtio_crypto_hash_session_para, algo);
@@ -122,23 +122,23 @@ static void control_requests(void)
     FIELD(asked_4_direction, part, virtio_crypto_aead_session_para, op);
 
     /* 001's fixed part of a hash ends before the kernel's padding */
-    LIST(createPart, sizeof(struct virtio_crypto_sym_create_session_req), offsetof(struct virtio_crypto_hash_session_para, padding),
+    LIST(create_part, sizeof(struct virtio_crypto_sym_create_session_req), offsetof(struct virtio_crypto_hash_session_para, padding),
          sizeof(struct virtio_crypto_mac_session_para), sizeof(struct virtio_crypto_aead_session_para));
-    LIST(createPart, VCRYPTO_CIPHER_CREATE_PART, VCRYPTO_HASH_CREATE_PART, VCRYPTO_MAC_CREATE_PART, VCRYPTO_AEAD_CREATE_PART);
+    LIST(create_part, VCRYPTO_CIPHER_CREATE_PART, VCRYPTO_HASH_CREATE_PART, VCRYPTO_MAC_CREATE_PART, VCRYPTO_AEAD_CREATE_PART);
 
     /* so does that of a destroy */
-    FIELD(controlAct, part, virtio_crypto_destroy_session_req, session_id);
-    FIELD(destroyChecks, part, virtio_crypto_destroy_session_req, session_id);
-    NUMBER(endChecks, 0, part + offsetof(struct virtio_crypto_destroy_session_req, padding));
-    NUMBER(headChecks, 4, offsetof(struct virtio_crypto_destroy_session_req, padding));
+    FIELD(control_act, part, virtio_crypto_destroy_session_req, session_id);
+    FIELD(destroy_checks, part, virtio_crypto_destroy_session_req, session_id);
+    NUMBER(end_checks, 0, part + offsetof(struct virtio_crypto_destroy_session_req, padding));
+    NUMBER(head_checks, 4, offsetof(struct virtio_crypto_destroy_session_req, padding));
     CONSTANT(DESTROY_PART, offsetof(struct virtio_crypto_destroy_session_req, padding));
 
     /* le 8 session_id, le 4 status, le 4 padding */
-    NUMBER(controlOutcome, 0, sizeof(struct virtio_crypto_session_input));
+    NUMBER(control_outcome, 0, sizeof(struct virtio_crypto_session_input));
     same("session_id is first", 0, offsetof(struct virtio_crypto_session_input, session_id));
-    NUMBER(controlOutcome, 1, offsetof(struct virtio_crypto_session_input, status));
-    NUMBER(controlOutcome, 2, SIZE_OF(virtio_crypto_session_input, status));
-    NUMBER(controlOutcome, 3, SIZE_OF(virtio_crypto_session_input, padding));
+    NUMBER(control_outcome, 1, offsetof(struct virtio_crypto_session_input, status));
+    NUMBER(control_outcome, 2, SIZE_OF(virtio_crypto_session_input, status));
+    NUMBER(control_outcome, 3, SIZE_OF(virtio_crypto_session_input, padding));
     CONSTANT(CREATE_OUTCOME, sizeof(struct virtio_crypto_session_input));
     CONSTANT(DESTROY_OUTCOME, sizeof(struct virtio_crypto_inhdr));
 }
@@ -151,7 +151,7 @@ static void data_requests(void)
     FIELD(opcode, 0, virtio_crypto_op_header, opcode);
     FIELD(number, 0, virtio_crypto_op_header, session_id);
     FIELD(flag, 0, virtio_crypto_op_header, flag);
-    NUMBER(startOf, 0, sizeof(struct virtio_crypto_op_header));
+    NUMBER(start_of, 0, sizeof(struct virtio_crypto_op_header));
     same("fixed part of a data request", sizeof(struct virtio_crypto_op_header), part);
     CONSTANT(DATA_HEADER, sizeof(struct virtio_crypto_op_header));
 
@@ -159,8 +159,8 @@ static void data_requests(void)
     FIELD(lengths_1_iv, part, virtio_crypto_sym_data_req, u.cipher.para.iv_len);
     FIELD(lengths_1_source, part, virtio_crypto_sym_data_req, u.cipher.para.src_data_len);
     FIELD(lengths_1_written, part, virtio_crypto_sym_data_req, u.cipher.para.dst_data_len);
-    FIELD(plainData, part, virtio_crypto_sym_data_req, op_type);
-    LIST(plainData, VIRTIO_CRYPTO_SYM_OP_CIPHER);
+    FIELD(plain_data, part, virtio_crypto_sym_data_req, op_type);
+    LIST(plain_data, VIRTIO_CRYPTO_SYM_OP_CIPHER);
 
     FIELD(lengths_2_iv, part, virtio_crypto_aead_para, iv_len);
     FIELD(lengths_2_aad, part, virtio_crypto_aead_para, aad_len);
@@ -176,10 +176,10 @@ static void data_requests(void)
     FIELD(lengths_3_result, part, virtio_crypto_mac_para, hash.hash_result_len);
 
     /* hash and MAC are one number in the definition */
-    LIST(dataPart, sizeof(struct virtio_crypto_sym_data_req), sizeof(struct virtio_crypto_hash_para),
+    LIST(data_part, sizeof(struct virtio_crypto_sym_data_req), sizeof(struct virtio_crypto_hash_para),
          sizeof(struct virtio_crypto_aead_para) + sizeof(__le32) + sizeof(__le32));
     same("fixed part of a MAC", sizeof(struct virtio_crypto_mac_para), sizeof(struct virtio_crypto_hash_para));
-    LIST(dataPart, VCRYPTO_CIPHER_DATA_PART, VCRYPTO_HASH_DATA_PART, VCRYPTO_AEAD_DATA_PART);
+    LIST(data_part, VCRYPTO_CIPHER_DATA_PART, VCRYPTO_HASH_DATA_PART, VCRYPTO_AEAD_DATA_PART);
     CONSTANT(MAC_DATA_PART, sizeof(struct virtio_crypto_mac_para));
     CONSTANT(DATA_OUTCOME, sizeof(struct virtio_crypto_inhdr));
 }
@@ -270,15 +270,15 @@ static void numbers(void)
     CONSTANT(DIR_ENCRYPT, VIRTIO_CRYPTO_OP_ENCRYPT);
     CONSTANT(DIR_DECRYPT, VIRTIO_CRYPTO_OP_DECRYPT);
 
-    LIST(opcodeOk, VIRTIO_CRYPTO_CIPHER_CREATE_SESSION, VIRTIO_CRYPTO_CIPHER_DESTROY_SESSION, VIRTIO_CRYPTO_HASH_CREATE_SESSION,
+    LIST(opcode_ok, VIRTIO_CRYPTO_CIPHER_CREATE_SESSION, VIRTIO_CRYPTO_CIPHER_DESTROY_SESSION, VIRTIO_CRYPTO_HASH_CREATE_SESSION,
          VIRTIO_CRYPTO_HASH_DESTROY_SESSION, VIRTIO_CRYPTO_MAC_CREATE_SESSION, VIRTIO_CRYPTO_MAC_DESTROY_SESSION, VIRTIO_CRYPTO_AEAD_CREATE_SESSION,
          VIRTIO_CRYPTO_AEAD_DESTROY_SESSION);
-    LIST(opcodeOk, VCRYPTO_CIPHER_CREATE, VCRYPTO_CIPHER_DESTROY, VCRYPTO_HASH_CREATE, VCRYPTO_HASH_DESTROY, VCRYPTO_MAC_CREATE, VCRYPTO_MAC_DESTROY,
+    LIST(opcode_ok, VCRYPTO_CIPHER_CREATE, VCRYPTO_CIPHER_DESTROY, VCRYPTO_HASH_CREATE, VCRYPTO_HASH_DESTROY, VCRYPTO_MAC_CREATE, VCRYPTO_MAC_DESTROY,
          VCRYPTO_AEAD_CREATE, VCRYPTO_AEAD_DESTROY);
-    LIST(operationOk, VIRTIO_CRYPTO_CIPHER_ENCRYPT, VIRTIO_CRYPTO_CIPHER_DECRYPT, VIRTIO_CRYPTO_HASH, VIRTIO_CRYPTO_MAC, VIRTIO_CRYPTO_AEAD_ENCRYPT,
+    LIST(operation_ok, VIRTIO_CRYPTO_CIPHER_ENCRYPT, VIRTIO_CRYPTO_CIPHER_DECRYPT, VIRTIO_CRYPTO_HASH, VIRTIO_CRYPTO_MAC, VIRTIO_CRYPTO_AEAD_ENCRYPT,
          VIRTIO_CRYPTO_AEAD_DECRYPT);
-    LIST(operationOk, VCRYPTO_CIPHER_ENCRYPT, VCRYPTO_CIPHER_DECRYPT, VCRYPTO_HASH_DATA, VCRYPTO_MAC_DATA, VCRYPTO_AEAD_ENCRYPT, VCRYPTO_AEAD_DECRYPT);
-    LIST(serviceOf, VIRTIO_CRYPTO_OPCODE(1, 0));
+    LIST(operation_ok, VCRYPTO_CIPHER_ENCRYPT, VCRYPTO_CIPHER_DECRYPT, VCRYPTO_HASH_DATA, VCRYPTO_MAC_DATA, VCRYPTO_AEAD_ENCRYPT, VCRYPTO_AEAD_DECRYPT);
+    LIST(service_of, VIRTIO_CRYPTO_OPCODE(1, 0));
     NUMBER(status, 0, VIRTIO_CRYPTO_AEAD_DECRYPT);
 
     LIST(ciphers, VIRTIO_CRYPTO_CIPHER_AES_ECB, VIRTIO_CRYPTO_CIPHER_AES_CBC, VIRTIO_CRYPTO_CIPHER_AES_CTR, VIRTIO_CRYPTO_CIPHER_3DES_CBC,
@@ -315,19 +315,19 @@ static void numbers(void)
     same("the status of a data request", 1, sizeof(struct virtio_crypto_inhdr));
 
     /* the device's own answers, and its sizes */
-    LIST(badGuest, VCRYPTO_BAD_GUEST);
-    LIST(noOutcome, VCRYPTO_NO_OUTCOME);
-    LIST(badStore, VCRYPTO_BAD_STORE);
-    LIST(badFeature, VCRYPTO_BAD_FEATURE);
-    LIST(badShares, VCRYPTO_BAD_SHARES);
-    LIST(badConfig, VCRYPTO_BAD_CONFIG);
-    LIST(slotCount, VCRYPTO_SLOTS);
-    LIST(areaSize, VCRYPTO_KEY_AREA);
-    LIST(storeSize, VCRYPTO_STORE_SIZE);
+    LIST(bad_guest, VCRYPTO_BAD_GUEST);
+    LIST(no_outcome, VCRYPTO_NO_OUTCOME);
+    LIST(bad_store, VCRYPTO_BAD_STORE);
+    LIST(bad_feature, VCRYPTO_BAD_FEATURE);
+    LIST(bad_shares, VCRYPTO_BAD_SHARES);
+    LIST(bad_config, VCRYPTO_BAD_CONFIG);
+    LIST(slot_count, VCRYPTO_SLOTS);
+    LIST(area_size, VCRYPTO_KEY_AREA);
+    LIST(store_size, VCRYPTO_STORE_SIZE);
     NUMBER(present, 0, VCRYPTO_GUESTS);
     /* the one value that each is compared with: eqb word 1, eqb flag 1 */
-    NUMBER(attachChecks, 1, VCRYPTO_REVISION_1);
-    NUMBER(operationChecks, 3, VCRYPTO_SESSION_MODE);
+    NUMBER(attach_checks, 1, VCRYPTO_REVISION_1);
+    NUMBER(operation_checks, 3, VCRYPTO_SESSION_MODE);
 }
 
 int main(void)

@@ -4,13 +4,13 @@
 function flush(    text, several, record, token, word, numbers) {
     text = body
     several = gsub(/record \{/, "record {", text) > 1
-    while (match(text, /record \{|[A-Za-z0-9]+ = le(32|64) [a-z] [0-9]+|le(32|64) [a-z] [0-9]+|[A-Za-z][A-Za-z0-9]*|[0-9]+/)) {
+    while (match(text, /record \{|[A-Za-z0-9_]+ = le(32|64) [a-z] [0-9]+|le(32|64) [a-z] [0-9]+|[A-Za-z][A-Za-z0-9_']*|[0-9]+/)) {
         token = substr(text, RSTART, RLENGTH)
         text = substr(text, RSTART + RLENGTH)
         split(token, word, " ")
         if (token == "record {")
             record++
-        else if (token ~ /^[A-Za-z0-9]+ = le/)
+        else if (token ~ /^[A-Za-z0-9_]+ = le/)
             read(name (several ? "_" record : "") "_" word[1], word[3], word[5])
         else if (token ~ /^le(32|64) /)
             read(name, word[1], word[3])
