@@ -25,7 +25,8 @@ use Rattle.history.specs.Good.{Good, matches_named}
 use Rattle.history.specs.Invariant.{Inv}
 use Rattle.history.specs.Rules as Rules
 use Rattle.history.specs.Rules.{inv_run, setting_run}
-use Rattle.history.specs.Zero.{Fills, all_run}
+use Rattle.history.specs.Zero.{Fills}
+use Rattle.history.proofs.Zero.{all_run}
 use Rattle.follows.specs.Areas.{cells, length_cells, get_or_cells}
 use Rattle.laws.specs.Areas.{length_padded}
 use Rattle.follows.specs.Follows.{cell_from, state_of}
