@@ -15,7 +15,7 @@ use Rattle.model.specs.Session.{World, slots_of, guest_at}
 use Rattle.model.specs.View.{owned, live_at, find, is_live, session_in, present}
 use Rattle.model.specs.Act.{attach, wipe, table_after, store_after}
 use Rattle.model.specs.Setup.{config_of, set_up_order, set_up_answer, fresh_table, set_up, attach_checks}
-use Rattle.model.specs.Data.{number, part_of, finish_checks, status}
+use Rattle.model.specs.Data.{part_of, finish_checks, status}
 use Rattle.model.specs.Device.{Attach, Admit, Part, KeyAnswer, Key, Finish, no_job, Outcome, checks_of, outcome, checks, reply, next, world, bare}
 use Rattle.laws.specs.Judge.{first_passed}
 use Rattle.laws.specs.Effect.{replied, granted_next, refused_next, find_bare}

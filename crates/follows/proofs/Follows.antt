@@ -1,14 +1,13 @@
 -- The table with its flat key store after an act is the state of the theorems after it.
 -- Assumes nothing.
-use Rattle.std.specs.Prelude.{◌≡◌, refl, Bool, true, false, cond, List, ℕ, ◌-◌, ◌<◌, ltb, length, set}
-use Rattle.std.proofs.Common.{sym, ap, ◌∙◌, arith, eqb-true, ltb-true, ltb-false}
-use Rattle.std.proofs.Math.Option.{none, some}
+use Rattle.std.specs.Prelude.{◌≡◌, refl, Bool, true, false, cond, List, ℕ, ◌<◌, length, set}
+use Rattle.std.proofs.Common.{sym, ap, ◌∙◌, arith, eqb-true}
+use Rattle.std.proofs.Math.Option.{some}
 use Rattle.std.proofs.lemmas.List.{length-replicate}
-use Rattle.lists.specs.Seek.{index, first, swap, swap_set, first_index, index_first, index_none}
-use Rattle.lists.specs.Sum.{except, sum_same, except_same}
+use Rattle.lists.specs.Seek.{index, first, swap, swap_set, first_index}
 use Rattle.model.specs.declared.Table.{Table}
 use Rattle.model.specs.Session.{slot_count, area_size, store_size, World, Place, free, slots_of, guest_at, zeros}
-use Rattle.model.specs.View.{is_free, is_held, owned, live, free_at, live_at, holds, total, unmet, full, entry_at, find, view, setting}
+use Rattle.model.specs.View.{is_free, owned, live, free_at, live_at, setting}
 use Rattle.model.specs.Act.{Act, refuse, pass, attach, create, destroy, released, table_after, store_after, with_area, wipe, after}
 use Rattle.history.specs.Cells as Cells
 use Rattle.history.specs.Cells.{Cell, State, stored, no_cell}
@@ -18,8 +17,8 @@ use Rattle.history.specs.Invariant.{Inv, setting_apply}
 use Rattle.laws.specs.Slots.{new_place}
 use Rattle.laws.proofs.Slots.{after_attach, after_create, after_destroy}
 use Rattle.laws.specs.Areas.{put_flat, length_with_area, length_wipe}
-use Rattle.follows.specs.Areas.{cells, set_cells, get_or_cells, wipe_cells, index_cells, count_cells, length_cells}
-use Rattle.follows.specs.Follows.{cell_from, state_of, lives, holds_slots, total_slots, full_slots, view_slots, Sized}
+use Rattle.follows.specs.Areas.{cells, set_cells, wipe_cells, index_cells, length_cells}
+use Rattle.follows.specs.Follows.{cell_from, state_of, lives, Sized}
 
 sized : (w : World) → Inv (state_of w) → stored (setting w) ≡ true → Sized w
 sized w v e = record {

@@ -1,12 +1,11 @@
 -- What the search for a live session finds: nothing for a number that was not given.
 -- Assumes nothing.
-use Rattle.std.specs.Prelude.{◌≡◌, Bool, true, false, ◌&&◌, ℕ, eqb, ltb, leb}
+use Rattle.std.specs.Prelude.{◌≡◌, Bool, true, false, ◌&&◌, ℕ, eqb}
 use Rattle.std.proofs.Common.{ap, sym, ◌∙◌}
 use Rattle.lists.specs.Seek.{index_out}
 use Rattle.lists.specs.Test.{and_false}
 use Rattle.laws.specs.Slots.{slots_length}
 use Rattle.laws.specs.Walk.{Good, length_slots}
-use Rattle.model.specs.declared.Config.{Config}
 use Rattle.model.specs.declared.Guest.{Guest}
 use Rattle.model.specs.declared.Table.{Table}
 use Rattle.model.specs.Session.{Place, slots_of, guest_at, accepts}

@@ -1,5 +1,4 @@
 -- `device::admit` meets its contract: one law for each way out.
-use Rattle.std.proofs.Common.{rules}
 use Rattle.device.specs.Calls.{admit_refused, admit_done}
 use Rattle.device.proofs.admit.Goals as goal
 

@@ -1,5 +1,4 @@
 -- `device::attach` meets its contract: one law for each way out.
-use Rattle.std.proofs.Common.{rules}
 use Rattle.device.specs.Calls.{attach_refused, attach_done}
 use Rattle.device.proofs.attach.Goals as goal
 

@@ -1,5 +1,4 @@
 -- `device::control` meets its contract: one law for each way out.
-use Rattle.std.proofs.Common.{rules}
 use Rattle.device.specs.Changes.{control_created, control_destroyed}
 use Rattle.device.proofs.control.Goals as goal
 

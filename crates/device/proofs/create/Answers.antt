@@ -1,5 +1,4 @@
 -- `device::create` meets its contract: its one way out.
-use Rattle.std.proofs.Common.{rules}
 use Rattle.device.specs.Changes.{created}
 use Rattle.device.proofs.create.Goals as goal
 

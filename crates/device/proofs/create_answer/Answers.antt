@@ -1,5 +1,4 @@
 -- `device::create_answer` meets its contract: one law for each way out.
-use Rattle.std.proofs.Common.{rules}
 use Rattle.device.specs.Answers.{create_stop, create_form, create_grant}
 use Rattle.device.proofs.create_answer.Goals as goal
 

@@ -1,5 +1,4 @@
 -- `device::data_answer` meets its contract: one law for each way out.
-use Rattle.std.proofs.Common.{rules}
 use Rattle.device.specs.Answers.{data_stop, data_job}
 use Rattle.device.proofs.data_answer.Goals as goal
 

@@ -1,5 +1,4 @@
 -- `device::destroy` meets its contract: its one way out.
-use Rattle.std.proofs.Common.{rules}
 use Rattle.device.specs.Changes.{destroyed}
 use Rattle.device.proofs.destroy.Goals as goal
 

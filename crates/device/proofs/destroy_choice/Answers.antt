@@ -1,5 +1,4 @@
 -- `device::destroy_choice` meets its contract: one law for each way out.
-use Rattle.std.proofs.Common.{rules}
 use Rattle.device.specs.Answers.{destroy_stop, destroy_end}
 use Rattle.device.proofs.destroy_choice.Goals as goal
 

@@ -1,5 +1,4 @@
 -- `device::fetch` meets its contract: one law for each way out.
-use Rattle.std.proofs.Common.{rules}
 use Rattle.device.specs.Answers.{fetched}
 use Rattle.device.proofs.fetch.Goals as goal
 

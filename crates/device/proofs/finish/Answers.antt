@@ -1,5 +1,4 @@
 -- `device::finish` meets its contract: one law for each way out.
-use Rattle.std.proofs.Common.{rules}
 use Rattle.device.specs.Calls.{finish_refused, finish_done}
 use Rattle.device.proofs.finish.Goals as goal
 

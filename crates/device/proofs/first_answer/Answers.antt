@@ -1,5 +1,4 @@
 -- `device::first_answer` meets its contract: opcode and flag are what was read.
-use Rattle.std.proofs.Common.{rules}
 use Rattle.device.specs.Answers.{first_read}
 use Rattle.device.proofs.first_answer.Goals as goal
 

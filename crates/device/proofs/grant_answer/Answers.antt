@@ -1,5 +1,4 @@
 -- `device::grant_answer` meets its contract: one law for each way out.
-use Rattle.std.proofs.Common.{rules}
 use Rattle.device.specs.Answers.{grant_number, grant_room, grant_both}
 use Rattle.device.proofs.grant_answer.Goals as goal
 

@@ -1,5 +1,4 @@
 -- `device::key` meets its contract: one law for each way out.
-use Rattle.std.proofs.Common.{rules}
 use Rattle.device.specs.Calls.{key_refused, key_done}
 use Rattle.device.proofs.key.Goals as goal
 

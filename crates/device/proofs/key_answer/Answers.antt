@@ -1,5 +1,4 @@
 -- `device::key_answer` meets its contract: one law for each way out.
-use Rattle.std.proofs.Common.{rules}
 use Rattle.device.specs.Calls.{key_answered}
 use Rattle.device.proofs.key_answer.Goals as goal
 

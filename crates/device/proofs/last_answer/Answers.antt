@@ -1,5 +1,4 @@
 -- `device::last_answer` meets its contract: opcode, op_type and lengths are what was read.
-use Rattle.std.proofs.Common.{rules}
 use Rattle.device.specs.Answers.{last_read}
 use Rattle.device.proofs.last_answer.Goals as goal
 

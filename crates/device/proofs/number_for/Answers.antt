@@ -1,6 +1,5 @@
 -- `device::number_for` meets its contract: by the answer.
 use mathlib.Core.Path.{refl}
-use Rattle.std.proofs.Common.{rules}
 use borrow.Author.Tests.{eq-eqb, ne_eqb}
 use Rattle.device.proofs.number_for.Goals as goal
 

@@ -1,5 +1,4 @@
 -- `device::opening_answer` meets its contract: each field is what was read.
-use Rattle.std.proofs.Common.{rules}
 use Rattle.device.proofs.opening_answer.Goals as goal
 
 pub returns : goal.returns

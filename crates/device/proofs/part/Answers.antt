@@ -1,5 +1,4 @@
 -- `device::part` meets its contract: one law for each way out.
-use Rattle.std.proofs.Common.{rules}
 use Rattle.device.specs.Calls.{part_stop, part_empty, part_whole}
 use Rattle.device.proofs.part.Goals as goal
 

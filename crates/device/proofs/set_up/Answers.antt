@@ -1,5 +1,4 @@
 -- `device::set_up` meets its contract: one law for each way out.
-use Rattle.std.proofs.Common.{rules}
 use Rattle.device.specs.Calls.{set_up_refused, set_up_done}
 use Rattle.device.proofs.set_up.Goals as goal
 

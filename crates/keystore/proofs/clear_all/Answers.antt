@@ -1,6 +1,5 @@
 -- `keystore::clear_all` meets its contract. Assumes nothing.
 use mathlib.Core.Path.{◌∙◌}
-use Rattle.std.proofs.Common.{rules}
 use Rattle.keystore.specs.StoredLaws.{padded_empty}
 use Rattle.keystore.proofs.clear_all.Goals as goal
 

@@ -1,5 +1,4 @@
 -- `keystore::clear_area` meets its contract. Assumes nothing.
-use Rattle.std.proofs.Common.{rules}
 use Rattle.keystore.specs.StoredLaws.{no_keys}
 use Rattle.keystore.proofs.clear_area.Goals as goal
 

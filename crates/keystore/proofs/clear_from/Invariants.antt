@@ -1,13 +1,9 @@
 -- `keystore::clear_from` meets its contract. From `at` to i zeros, before and behind them what was there. Assumes nothing.
 use Prim.Native.Nat.{◌≤◌, ◌-◌}
-use mathlib.Core.Path.{◌≡◌, refl}
-use Rattle.std.proofs.Common.{arith}
-use lib.ListN.{length, take, length-set}
-use Rattle.std.proofs.Common.{rules}
-use Rattle.lists.specs.Splice.{filled, filled_more, filled_all}
+use mathlib.Core.Path.{◌≡◌}
+use lib.ListN.{length, take}
+use Rattle.lists.specs.Splice.{filled}
 use Rattle.model.specs.Bytes.{padded}
-use Rattle.laws.specs.Areas.{length_padded}
-use Rattle.keystore.specs.StoredLaws.{kept_front, zero_behind}
 use Rattle.keystore.proofs.clear_from.Given as goal
 
 abbrev pub invariant-loop-i : goal.invariant-loop-i

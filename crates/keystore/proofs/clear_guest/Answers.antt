@@ -1,12 +1,9 @@
 -- `keystore::clear_guest` meets its contract. After i turns: the guest's areas among the first i are zeroed. Assumes nothing.
-use Prim.Native.Nat.{◌≤◌, ◌-◌}
 use mathlib.Core.Path.{◌≡◌, refl}
 use Rattle.std.proofs.Common.{arith}
-use lib.ListN.{length, take}
+use lib.ListN.{length}
 use Rattle.std.proofs.Common.{rules}
 use Rattle.model.specs.Session.{slot_of, slots_of}
-use Rattle.model.specs.View.{owned}
-use Rattle.model.specs.Act.{wipe}
 use Rattle.laws.specs.Areas.{wipe_none}
 use Rattle.laws.specs.Chain.{choices}
 use Rattle.laws.specs.Walk.{length_slots}

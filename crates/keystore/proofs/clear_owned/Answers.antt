@@ -1,5 +1,4 @@
 -- `keystore::clear_owned` meets its contract: by whether the slot names the guest.
-use Rattle.std.proofs.Common.{rules}
 use mathlib.Core.Path.{refl, sym, ◌∙◌}
 use Rattle.laws.specs.Chain.{chosen, other}
 use Rattle.keystore.proofs.clear_owned.Goals as goal

@@ -1,16 +1,9 @@
 -- `keystore::copy_front` meets its contract. After i turns: the key's first i bytes, then what was there. Assumes nothing.
-use Prim.Native.Nat.{ℕ, ◌-◌, ◌<◌}
-use mathlib.Core.Path.{◌≡◌, refl, sym, ◌∙◌}
-use mathlib.Core.Bool.{true, false, ◌&&◌}
-use Rattle.std.proofs.Common.{arith}
-use lib.Dec.{ltb}
-use lib.ListN.{length, length-set}
-use Rattle.std.proofs.Common.{rules}
-use borrow.Author.Tests.{ltb-true, lt-ltb}
-use Rattle.lists.specs.Test.{and_true, false_true}
-use Rattle.lists.specs.Splice.{filled, filled_none, filled_more}
+use Prim.Native.Nat.{◌-◌}
+use mathlib.Core.Path.{◌≡◌}
+use lib.ListN.{length}
+use Rattle.lists.specs.Splice.{filled}
 use Rattle.keystore.specs.Stored.{laid}
-use Rattle.keystore.specs.StoredLaws.{length_laid, laid_at, laid_all}
 use Rattle.keystore.proofs.copy_front.Given as goal
 
 abbrev pub invariant-loop-i : goal.invariant-loop-i

@@ -1,5 +1,4 @@
 -- `keystore::fill` meets its contract: the key is laid over the front, and the rest is zeroed. Assumes nothing.
-use Rattle.std.proofs.Common.{rules}
 use Rattle.keystore.specs.StoredLaws.{laid_cleared}
 use Rattle.keystore.proofs.fill.Goals as goal
 

@@ -1,5 +1,4 @@
 -- `keystore::key_len` meets its contract. Assumes nothing.
-use Rattle.std.proofs.Common.{rules}
 use Rattle.model.specs.Session.{key_len}
 use Rattle.laws.specs.Chain.{choices}
 use Rattle.keystore.proofs.key_len.Goals as goal

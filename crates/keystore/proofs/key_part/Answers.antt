@@ -1,6 +1,5 @@
 -- `keystore::key_part` meets its contract.
 use mathlib.Core.Path.{◌∙◌}
-use Rattle.std.proofs.Common.{rules}
 use Rattle.keystore.proofs.key_part.Goals as goal
 
 pub returns : goal.returns

@@ -1,6 +1,5 @@
 -- `keystore::key_place` meets its contract: one law for each way out. Assumes nothing.
 use Rattle.std.proofs.Common.{arith}
-use Rattle.std.proofs.Common.{rules}
 use Rattle.keystore.specs.StoredLaws.{no_place, key_place, key_start_le}
 use Rattle.keystore.proofs.key_place.Goals as goal
 

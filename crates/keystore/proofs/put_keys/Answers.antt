@@ -1,6 +1,5 @@
 -- `keystore::put_keys` meets its contract: two writes side by side are one. Assumes nothing.
 use Rattle.std.proofs.Common.{arith}
-use Rattle.std.proofs.Common.{rules}
 use Rattle.keystore.specs.StoredLaws.{stored_unsized, stored_past, put_halves}
 use Rattle.keystore.proofs.put_keys.Goals as goal
 

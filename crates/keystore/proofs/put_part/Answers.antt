@@ -1,6 +1,5 @@
 -- `keystore::put_part` meets its contract. Assumes nothing.
 use Rattle.std.proofs.Common.{arith}
-use Rattle.std.proofs.Common.{rules}
 use Rattle.lists.specs.Splice.{splice_lent, splice_refused}
 use Rattle.model.specs.Bytes.{padded}
 use Rattle.laws.specs.Areas.{length_padded}

@@ -1,6 +1,5 @@
 -- The first clear bit of the first word, or else that of the second.
 use Rattle.std.proofs.Common.{arith}
-use Rattle.std.proofs.Common.{rules}
 use Rattle.laws.specs.Bits.{clear_low, clear_high}
 use Rattle.occupancy.proofs.first_free.Goals as goal
 

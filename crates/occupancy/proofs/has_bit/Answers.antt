@@ -2,7 +2,6 @@
 use mathlib.Core.Path.{sym}
 use mathlib.Core.Bool.{false}
 use Rattle.std.proofs.Common.{arith}
-use Rattle.std.proofs.Common.{rules}
 use lib.ListN.{get_or-eq_default}
 use Rattle.model.specs.Session.{bit, bits_of}
 use Rattle.laws.specs.Bits.{length_bits, bit_at}

@@ -1,6 +1,5 @@
 -- A slot below 64 is a bit of the first word, and one from 64 on of the second.
 use mathlib.Core.Path.{sym, ◌∙◌}
-use Rattle.std.proofs.Common.{rules}
 use Rattle.laws.specs.Bits.{mark_low, mark_high}
 use Rattle.occupancy.proofs.is_held.Goals as goal
 

@@ -1,5 +1,4 @@
 -- `occupancy::moved_down` meets its contract: the first word takes the lowest bit of the second above its own.
-use Rattle.std.proofs.Common.{rules}
 use Prim.Native.Nat.{◌/◌, ◌%◌}
 use Rattle.std.proofs.Common.{arith}
 use Rattle.laws.specs.Bits.{front_fits, marks_down}

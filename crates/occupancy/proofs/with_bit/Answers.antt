@@ -1,7 +1,6 @@
 -- The bit is set by `or` and cleared by `and`; past the 64 there is none.
 use mathlib.Core.Path.{sym, ap, ◌∙◌}
 use Rattle.std.proofs.Common.{arith}
-use Rattle.std.proofs.Common.{rules}
 use lib.Seq.{set_out}
 use Rattle.model.specs.Session.{bits_of, word_of}
 use Rattle.laws.specs.Bits.{length_bits, word_bits, word_set, word_clear}

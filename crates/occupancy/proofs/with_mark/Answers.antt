@@ -1,6 +1,5 @@
 -- One word changes, and the other stays.
 use Rattle.std.proofs.Common.{arith}
-use Rattle.std.proofs.Common.{rules}
 use Rattle.laws.specs.Bits.{marked_low, marked_high}
 use Rattle.occupancy.proofs.with_mark.Goals as goal
 

@@ -1,5 +1,4 @@
 -- `request::config_of` meets its contract: each field is what was read.
-use Rattle.std.proofs.Common.{rules}
 use Rattle.model.specs.Setup.{config_of}
 use Rattle.request.proofs.config_of.Goals as goal
 

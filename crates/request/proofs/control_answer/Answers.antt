@@ -1,5 +1,4 @@
 -- `request::control_answer` meets its contract: stage after stage.
-use Rattle.std.proofs.Common.{rules}
 use Rattle.laws.specs.Stages.{stages}
 use Rattle.request.proofs.control_answer.Goals as goal
 

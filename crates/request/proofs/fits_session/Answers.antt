@@ -1,5 +1,4 @@
 -- `request::fits_session` meets its contract: its definition, with each callee's answer for what the callee's contract says.
-use Rattle.std.proofs.Common.{rules}
 use Rattle.model.specs.Data.{fits}
 use Rattle.request.proofs.fits_session.Goals as goal
 

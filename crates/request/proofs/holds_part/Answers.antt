@@ -1,5 +1,4 @@
 -- `request::holds_part` meets its contract: its definition, with each callee's answer for what the callee's contract says.
-use Rattle.std.proofs.Common.{rules}
 use borrow.Author.Tests.{eq-eqb, ne_eqb}
 use Prim.Native.Nat.{◌%◌}
 use Rattle.request.proofs.holds_part.Goals as goal

@@ -1,5 +1,4 @@
 -- `request::is_exact` meets its contract: its definition, with each callee's answer for what the callee's contract says.
-use Rattle.std.proofs.Common.{rules}
 use Rattle.request.proofs.is_exact.Goals as goal
 
 pub returns : goal.returns

@@ -1,5 +1,4 @@
 -- `request::is_plain` meets its contract: it is its definition, with what was read for each field.
-use Rattle.std.proofs.Common.{rules}
 use Rattle.request.proofs.is_plain.Goals as goal
 
 pub returns : goal.returns

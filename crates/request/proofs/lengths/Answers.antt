@@ -1,5 +1,4 @@
 -- `request::lengths` meets its contract: the service picks the layout, and each field is what was read.
-use Rattle.std.proofs.Common.{rules}
 use borrow.Author.Tests.{eq-eqb, ne_eqb}
 use Prim.Native.Nat.{◌/◌}
 use Rattle.model.specs.Data.{lengths}

@@ -1,5 +1,4 @@
 -- `request::opcode_ok` meets its contract: its definition, with each callee's answer for what the callee's contract says.
-use Rattle.std.proofs.Common.{rules}
 use Rattle.model.specs.Control.{opcode_ok}
 use Rattle.request.proofs.opcode_ok.Goals as goal
 

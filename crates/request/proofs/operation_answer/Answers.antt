@@ -1,5 +1,4 @@
 -- `request::operation_answer` meets its contract: at each return the tests that led there say which check fails first.
-use Rattle.std.proofs.Common.{rules}
 use Rattle.laws.specs.Chain.{checks, not_eq, not_ne}
 use Rattle.request.proofs.operation_answer.Goals as goal
 

@@ -1,5 +1,4 @@
 -- `request::operation_ok` meets its contract: its definition, with each callee's answer for what the callee's contract says.
-use Rattle.std.proofs.Common.{rules}
 use Rattle.model.specs.Data.{operation_ok}
 use Rattle.request.proofs.operation_ok.Goals as goal
 

@@ -1,6 +1,5 @@
 -- `request::part` meets its contract.
 use mathlib.Core.Path.{◌∙◌}
-use Rattle.std.proofs.Common.{rules}
 use Rattle.request.proofs.part.Goals as goal
 
 pub returns : goal.returns

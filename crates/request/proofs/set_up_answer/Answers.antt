@@ -1,5 +1,4 @@
 -- `request::set_up_answer` meets its contract: at each return the tests that led there say which check fails first.
-use Rattle.std.proofs.Common.{rules}
 use Rattle.laws.specs.Chain.{checks}
 use Rattle.request.proofs.set_up_answer.Goals as goal
 

@@ -1,5 +1,4 @@
 -- `request::suits_job` meets its contract: it is its definition.
-use Rattle.std.proofs.Common.{rules}
 use mathlib.Core.Path.{refl}
 use Rattle.request.proofs.suits_job.Goals as goal
 

@@ -1,6 +1,6 @@
 -- `rules::ccm_payload` meets its contract: the row says the exponent, and the first one that the power is above every 32-bit number.
 use mathlib.Core.Path.{◌≡◌, refl, sym}
-use Prim.Native.Nat.{ℕ, ◌-◌, ◌^◌, ◌≤◌, ◌<◌}
+use Prim.Native.Nat.{◌-◌, ◌^◌, ◌≤◌, ◌<◌}
 use native.Mathlib.Nat.{pow-le-pow_right}
 use Rattle.std.proofs.Common.{arith}
 use borrow.Author.Tests.{lt-ltb}

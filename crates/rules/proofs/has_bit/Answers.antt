@@ -1,5 +1,4 @@
 -- `rules::has_bit` meets its contract: no bit stands above the mask's 32.
-use Rattle.std.proofs.Common.{rules}
 use mathlib.Core.Path.{refl, sym}
 use Rattle.std.proofs.Common.{arith}
 use Rattle.model.specs.Session.{bit}

@@ -1,5 +1,4 @@
 -- `rules::is_accepted` meets its contract: its definition, with each callee's answer for what the callee's contract says.
-use Rattle.std.proofs.Common.{rules}
 use Rattle.model.specs.Session.{accepts}
 use Rattle.rules.proofs.is_accepted.Goals as goal
 

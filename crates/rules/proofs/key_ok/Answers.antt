@@ -1,6 +1,5 @@
 -- `rules::key_ok` meets its contract: the row of the service that the tests picked.
 use mathlib.Core.Path.{refl}
-use Rattle.std.proofs.Common.{rules}
 use borrow.Author.Tests.{ne_eqb}
 use Rattle.model.specs.Algorithm.{key_ok}
 use Rattle.rules.specs.Rows.{first_row, third_row}

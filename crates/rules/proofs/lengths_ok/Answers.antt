@@ -1,5 +1,4 @@
 -- `rules::lengths_ok` meets its contract: its definition, with each callee's answer for what the callee's contract says.
-use Rattle.std.proofs.Common.{rules}
 use Rattle.model.specs.Session.{lengths_ok}
 use Rattle.rules.proofs.lengths_ok.Goals as goal
 

@@ -1,5 +1,4 @@
 -- `rules::payload_ok` meets its contract: its definition, with each callee's answer for what the callee's contract says.
-use Rattle.std.proofs.Common.{rules}
 use mathlib.Core.Path.{refl}
 use Rattle.model.specs.Algorithm.{payload_ok}
 use Rattle.rules.proofs.payload_ok.Goals as goal

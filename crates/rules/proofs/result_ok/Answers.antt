@@ -1,6 +1,5 @@
 -- `rules::result_ok` meets its contract: the row of the service that the tests picked.
 use mathlib.Core.Path.{refl}
-use Rattle.std.proofs.Common.{rules}
 use borrow.Author.Tests.{ne_eqb}
 use Rattle.model.specs.Algorithm.{result_ok}
 use Rattle.rules.specs.Rows.{second_row, third_row}

@@ -1,11 +1,9 @@
 -- `rules::shares_ok` meets its contract: after i guests `good` and `sum` are those of the first i.
-use Rattle.std.proofs.Common.{rules}
-use mathlib.Core.Path.{◌≡◌, refl}
+use mathlib.Core.Path.{◌≡◌}
 use Prim.Native.Nat.{◌*◌, ◌-◌, ◌≤◌}
-use Rattle.std.proofs.Common.{arith}
 use Rattle.lists.specs.Sum.{sum_to}
 use Rattle.model.specs.Setup.{all_to}
-use Rattle.rules.specs.Shares.{share_ok, reserve_of, all_more, sum_more, shares_done}
+use Rattle.rules.specs.Shares.{share_ok, reserve_of}
 use Rattle.rules.proofs.shares_ok.Given as goal
 
 abbrev pub invariant-loop-i : goal.invariant-loop-i

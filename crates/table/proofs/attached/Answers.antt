@@ -1,5 +1,4 @@
 -- The callees' results, one in the other.
-use Rattle.std.proofs.Common.{rules}
 use Rattle.model.specs.Act.{table_after}
 use Rattle.table.proofs.attached.Goals as goal
 

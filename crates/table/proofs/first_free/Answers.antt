@@ -1,6 +1,5 @@
 -- The first slot that is not marked.
 use mathlib.Core.Path.{sym, ◌∙◌}
-use Rattle.std.proofs.Common.{rules}
 use Rattle.laws.specs.Slots.{free_marks}
 use Rattle.laws.specs.Walk.{length_slots}
 use Rattle.table.proofs.first_free.Goals as goal

@@ -1,5 +1,4 @@
 -- `table::has_room` meets its contract: it is what `is_full` denies.
-use Rattle.std.proofs.Common.{rules}
 use mathlib.Core.Path.{ap}
 use mathlib.Core.Bool.{not}
 use Rattle.table.proofs.has_room.Goals as goal

@@ -1,15 +1,14 @@
 -- After i turns each guest's slots below i are counted, and the marks from slot i on are left.
 use mathlib.Core.Path.{◌≡◌, refl, ◌∙◌}
 use mathlib.Core.Bool.{Bool, true, ◌&&◌}
-use Prim.Native.Nat.{ℕ, ◌≤◌, ◌<◌, ◌-◌}
+use Prim.Native.Nat.{ℕ, ◌<◌}
 use Rattle.std.proofs.Common.{arith}
-use Rattle.std.proofs.Common.{rules}
 use lib.Dec.{ltb}
-use lib.ListN.{length, length-set}
+use lib.ListN.{length-set}
 use borrow.Author.Tests.{ltb-true}
 use Rattle.lists.specs.Test.{and_true}
-use Rattle.laws.specs.Bits.{From, from_start, from_here, from_next}
-use Rattle.laws.specs.Walk.{fields_of, Counts, counts_none, counts_le, counts_all, counts_skip, counts_more}
+use Rattle.laws.specs.Bits.{from_start, from_here, from_next}
+use Rattle.laws.specs.Walk.{fields_of, counts_none, counts_le, counts_all, counts_skip, counts_more}
 use Rattle.model.specs.Session.{slot_of}
 use Rattle.table.proofs.holdings.Goals as goal
 use Rattle.table.proofs.holdings.Goals.{then-is_held-c, else-is_held-c}

@@ -1,7 +1,6 @@
 -- A guest above 7 has a cap of 0. Held slots are at most 128, so the sum fits; the rest is the callees' results.
 use mathlib.Core.Path.{refl, sym, ◌∙◌}
 use Rattle.std.proofs.Common.{arith}
-use Rattle.std.proofs.Common.{rules}
 use Rattle.laws.specs.Slots.{total_marks}
 use Rattle.laws.specs.Walk.{length_slots, held_or_free, none_free, full_beyond, owed_by}
 use Rattle.model.specs.View.{no_room, full}

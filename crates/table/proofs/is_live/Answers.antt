@@ -2,7 +2,6 @@
 use mathlib.Core.Path.{◌≡◌, refl, ap, ◌∙◌}
 use mathlib.Core.Bool.{Bool, true, false, ◌&&◌}
 use Prim.Native.Nat.{ℕ}
-use Rattle.std.proofs.Common.{rules}
 use lib.Dec.{eqb}
 use Rattle.model.specs.declared.Config.{Config}
 use Rattle.model.specs.Session.{Place, place_of, marked, accepts}

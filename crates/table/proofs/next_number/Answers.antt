@@ -1,7 +1,6 @@
 -- The test picks the case of the definition.
 use native.Mathlib.Numerals.{add-one}
 use Rattle.std.proofs.Common.{arith}
-use Rattle.std.proofs.Common.{rules}
 use borrow.Author.Tests.{le-leb, lt-leb}
 use Rattle.model.specs.Session.{last_number}
 use Rattle.table.specs.Narrow.{number_after}

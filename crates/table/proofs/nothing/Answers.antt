@@ -1,6 +1,5 @@
 -- The session of a free slot.
 use mathlib.Core.Path.{refl, ap, ◌∙◌}
-use Rattle.std.proofs.Common.{rules}
 use Rattle.model.specs.Session.{session_of}
 use Rattle.table.proofs.nothing.Goals as goal
 

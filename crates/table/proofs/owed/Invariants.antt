@@ -1,12 +1,7 @@
 -- The sum so far is that of the guests passed.
-use mathlib.Core.Path.{◌≡◌, ap, ◌∙◌}
-use mathlib.Core.Logic.{⊎_elim}
+use mathlib.Core.Path.{◌≡◌}
 use Prim.Native.Nat.{◌≤◌, ◌-◌, ◌*◌}
-use Rattle.std.proofs.Common.{arith}
-use Rattle.std.proofs.Common.{rules}
 use Rattle.lists.specs.Sum.{sum_to, except}
-use Rattle.laws.specs.Walk.{others_more, others_skip}
-use Rattle.model.specs.Session.{new_guest}
 use Rattle.table.specs.Narrow.{lacks}
 use Rattle.table.proofs.owed.Given as goal
 

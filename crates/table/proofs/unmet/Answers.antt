@@ -1,6 +1,5 @@
 -- A reserve that is met lacks nothing; it is a byte, so what is lacking is at most 255.
 use Rattle.std.proofs.Common.{arith}
-use Rattle.std.proofs.Common.{rules}
 use Rattle.table.proofs.unmet.Goals as goal
 
 pub returns-then-reserve-held : goal.returns-then-reserve-held

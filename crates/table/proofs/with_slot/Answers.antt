@@ -1,5 +1,4 @@
 -- A mark and its slot stored; past the end nothing is.
-use Rattle.std.proofs.Common.{rules}
 use Rattle.laws.specs.Slots.{stored_at}
 use Rattle.laws.specs.Walk.{length_slots, slot_out}
 use Rattle.model.specs.Session.{slot_of}

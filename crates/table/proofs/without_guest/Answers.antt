@@ -1,9 +1,8 @@
 -- After i turns the guest's slots below i are freed.
-use mathlib.Core.Path.{◌≡◌, ◌∙◌}
-use Prim.Native.Nat.{◌≤◌, ◌-◌}
+use mathlib.Core.Path.{◌∙◌}
 use Rattle.std.proofs.Common.{arith}
 use Rattle.std.proofs.Common.{rules}
-use Rattle.laws.specs.Walk.{freed_below, freed_none, freed_all, freed_more, freed_skip}
+use Rattle.laws.specs.Walk.{freed_none, freed_all, freed_more, freed_skip}
 use Rattle.model.specs.Session.{slot_of}
 use Rattle.table.proofs.without_guest.Goals as goal
 use Rattle.table.proofs.without_guest.Goals.{then-owned_by, else-owned_by}

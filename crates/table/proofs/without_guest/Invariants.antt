@@ -1,11 +1,7 @@
 -- After i turns the guest's slots below i are freed.
-use mathlib.Core.Path.{◌≡◌, ◌∙◌}
-use mathlib.Core.Logic.{⊎_elim}
+use mathlib.Core.Path.{◌≡◌}
 use Prim.Native.Nat.{◌≤◌, ◌-◌}
-use Rattle.std.proofs.Common.{arith}
-use Rattle.std.proofs.Common.{rules}
-use Rattle.laws.specs.Walk.{freed_below, freed_none, freed_all, freed_more, freed_skip}
-use Rattle.model.specs.Session.{slot_of}
+use Rattle.laws.specs.Walk.{freed_below}
 use Rattle.table.proofs.without_guest.Given as goal
 
 abbrev pub invariant-loop-i : goal.invariant-loop-i

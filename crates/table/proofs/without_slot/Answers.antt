@@ -1,6 +1,5 @@
 -- The callees' results, one in the other; the place of a kept slot is the place that was kept.
 use mathlib.Core.Path.{refl}
-use Rattle.std.proofs.Common.{rules}
 use Rattle.model.specs.Session.{slot_of}
 use Rattle.table.proofs.without_slot.Goals as goal
 

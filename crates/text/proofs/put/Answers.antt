@@ -1,5 +1,4 @@
 -- `text::put` meets its contract. Assumes nothing.
-use Rattle.std.proofs.Common.{rules}
 use Rattle.text.specs.Laws.{puts_one, puts_full}
 use Rattle.text.proofs.put.Goals as goal
 

@@ -1,6 +1,5 @@
 -- `text::put_line` meets its contract. Assumes nothing.
 use Rattle.std.proofs.Common.{arith}
-use Rattle.std.proofs.Common.{rules}
 use Rattle.text.specs.Laws.{puts_line}
 use Rattle.text.proofs.put_line.Goals as goal
 

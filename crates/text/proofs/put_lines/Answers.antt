@@ -1,9 +1,6 @@
 -- `text::put_lines` meets its contract. Assumes nothing.
-use Prim.Native.Nat.{◌-◌, ◌≤◌}
 use Rattle.std.proofs.Common.{arith}
-use lib.ListN.{length, take}
-use Rattle.std.proofs.Common.{rules}
-use Rattle.text.specs.Lines.{lines_from, Puts}
+use Rattle.text.specs.Lines.{lines_from}
 use Rattle.text.specs.Laws.{puts_none, puts_next, puts_lines}
 use Rattle.text.proofs.put_lines.Goals as goal
 

@@ -1,5 +1,4 @@
 -- `trace::body` meets its contract. Assumes nothing.
-use Rattle.std.proofs.Common.{rules}
 use Rattle.std.proofs.Common.{arith}
 use Rattle.wire.specs.Read.{part_past}
 use Rattle.trace.proofs.body.Goals as goal

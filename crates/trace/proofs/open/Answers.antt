@@ -1,5 +1,4 @@
 -- `trace::open` meets its contract. Assumes nothing.
-use Rattle.std.proofs.Common.{rules}
 use Rattle.trace.specs.Laws.{open_short, open_long, open_far, open_good, open_bad}
 use Rattle.trace.proofs.open.Goals as goal
 

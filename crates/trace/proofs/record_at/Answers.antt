@@ -1,5 +1,4 @@
 -- `trace::record_at` meets its contract. Assumes nothing.
-use Rattle.std.proofs.Common.{rules}
 use Rattle.trace.specs.Replay.{record_at}
 use Rattle.trace.specs.Laws.{record_past}
 use Rattle.trace.proofs.record_at.Goals as goal

@@ -1,5 +1,4 @@
 -- `trace::record_fits` meets its contract. Assumes nothing.
-use Rattle.std.proofs.Common.{rules}
 use Rattle.trace.specs.Laws.{fits_not, fits_room}
 use Rattle.trace.proofs.record_fits.Goals as goal
 

@@ -1,8 +1,6 @@
 -- `trace::records_end` meets its contract: what is left of the walk is the walk. Assumes nothing.
-use mathlib.Core.Path.{◌≡◌, refl, sym, ◌∙◌}
+use mathlib.Core.Path.{refl, sym, ◌∙◌}
 use Rattle.std.proofs.Common.{arith}
-use Rattle.std.proofs.Common.{rules}
-use Rattle.trace.specs.Replay.{walks}
 use Rattle.trace.specs.Laws.{fits_ends, walks_none, walks_bad, walks_good}
 use Rattle.trace.proofs.records_end.Goals as goal
 

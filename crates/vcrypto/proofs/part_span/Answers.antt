@@ -1,5 +1,4 @@
 -- `vcrypto::part_span` meets its contract.
-use Rattle.std.proofs.Common.{rules}
 use Rattle.vcrypto.specs.SpanLaws.{field_located}
 use Rattle.vcrypto.proofs.part_span.Goals as goal
 

@@ -1,5 +1,4 @@
 -- `vcrypto::vcrypto_key` meets its contract.
-use Rattle.std.proofs.Common.{rules}
 use Rattle.vcrypto.specs.SpanLaws.{key_located}
 use Rattle.vcrypto.proofs.vcrypto_key.Goals as goal
 

@@ -1,5 +1,4 @@
 -- `wire::byte` meets its contract. Assumes nothing.
-use Rattle.std.proofs.Common.{rules}
 use mathlib.Core.Path.{sym}
 use Rattle.wire.specs.Read.{byte_past}
 use Rattle.wire.proofs.byte.Goals as goal

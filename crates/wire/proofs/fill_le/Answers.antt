@@ -1,12 +1,10 @@
 -- `wire::fill_le` meets its contract. After i turns: the lowest i bytes of x, then what was there; and what is left of x. Assumes nothing.
-use Prim.Native.Nat.{◌≤◌, ◌-◌}
-use mathlib.Core.Path.{◌≡◌, refl}
+use mathlib.Core.Path.{refl}
 use Rattle.std.proofs.Common.{arith}
-use lib.ListN.{length, length-set}
+use lib.ListN.{length-set}
 use Rattle.std.proofs.Common.{rules}
-use Rattle.lists.specs.Splice.{filled, filled_none, filled_more, filled_all}
-use Rattle.model.specs.Bytes.{le}
-use Rattle.wire.specs.Write.{above, length_le, above_none, above_more, le_next}
+use Rattle.lists.specs.Splice.{filled_none, filled_more, filled_all}
+use Rattle.wire.specs.Write.{length_le, above_none, above_more, le_next}
 use Rattle.wire.proofs.fill_le.Goals as goal
 
 pub loop-i-init : goal.loop-i-init

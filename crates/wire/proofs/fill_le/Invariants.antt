@@ -1,12 +1,10 @@
 -- `wire::fill_le` meets its contract. After i turns: the lowest i bytes of x, then what was there; and what is left of x. Assumes nothing.
 use Prim.Native.Nat.{◌≤◌, ◌-◌}
-use mathlib.Core.Path.{◌≡◌, refl}
-use Rattle.std.proofs.Common.{arith}
-use lib.ListN.{length, length-set}
-use Rattle.std.proofs.Common.{rules}
-use Rattle.lists.specs.Splice.{filled, filled_none, filled_more, filled_all}
+use mathlib.Core.Path.{◌≡◌}
+use lib.ListN.{length}
+use Rattle.lists.specs.Splice.{filled}
 use Rattle.model.specs.Bytes.{le}
-use Rattle.wire.specs.Write.{above, length_le, above_none, above_more, le_next}
+use Rattle.wire.specs.Write.{above}
 use Rattle.wire.proofs.fill_le.Given as goal
 
 abbrev pub invariant-loop-i : goal.invariant-loop-i

@@ -1,6 +1,5 @@
 -- `wire::part` meets its contract. Assumes nothing.
 use Rattle.std.proofs.Common.{arith}
-use Rattle.std.proofs.Common.{rules}
 use Rattle.wire.specs.Read.{part_past, part_cut, part_whole}
 use Rattle.wire.proofs.part.Goals as goal
 

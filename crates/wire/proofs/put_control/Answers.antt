@@ -1,5 +1,4 @@
 -- `wire::put_control` meets its contract. Assumes nothing.
-use Rattle.std.proofs.Common.{rules}
 use Rattle.model.specs.Answer.{control_bytes}
 use Rattle.laws.specs.Chain.{choices}
 use Rattle.wire.proofs.put_control.Goals as goal

@@ -1,5 +1,4 @@
 -- `wire::put_data` meets its contract. Assumes nothing.
-use Rattle.std.proofs.Common.{rules}
 use Rattle.model.specs.Answer.{data_bytes}
 use Rattle.laws.specs.Chain.{choices}
 use Rattle.wire.proofs.put_data.Goals as goal

@@ -1,6 +1,5 @@
 -- `wire::put_le` meets its contract. Assumes nothing.
 use Rattle.std.proofs.Common.{arith}
-use Rattle.std.proofs.Common.{rules}
 use Rattle.lists.specs.Splice.{splice_lent, splice_refused}
 use Rattle.model.specs.Bytes.{le}
 use Rattle.wire.specs.Write.{length_le}

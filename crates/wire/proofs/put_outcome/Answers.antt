@@ -1,6 +1,5 @@
 -- `wire::put_outcome` meets its contract. Assumes nothing.
 use Rattle.std.proofs.Common.{arith}
-use Rattle.std.proofs.Common.{rules}
 use Rattle.model.specs.Answer.{control_outcome}
 use Rattle.laws.specs.Chain.{choices}
 use Rattle.wire.specs.Write.{control_16, control_1}

@@ -1,7 +1,6 @@
 -- `wire::put_status` meets its contract. Assumes nothing.
 use mathlib.Core.Path.{refl}
 use Rattle.std.proofs.Common.{arith}
-use Rattle.std.proofs.Common.{rules}
 use Rattle.model.specs.Answer.{data_outcome}
 use Rattle.wire.specs.Write.{data_empty}
 use Rattle.wire.proofs.put_status.Goals as goal
