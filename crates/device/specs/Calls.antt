@@ -1,8 +1,8 @@
 -- The ways out of the public calls: a law for each, with what the callees' contracts say as premises and the call's own contract as conclusion.
 -- Assumes nothing.
-use Rattle.std.specs.Prelude.{ℕ, ◌≡◌, Bool, List, [], ltb}
+use Rattle.std.specs.Prelude.{ℕ, ◌<◌, ◌≡◌, Bool, true, List, [], ltb}
 use Rattle.std.proofs.Math.Path.{refl, ap}
-use Rattle.std.proofs.Common.{sym, ◌∙◌}
+use Rattle.std.proofs.Common.{sym, ◌∙◌, lt-ltb}
 use Rattle.std.proofs.Math.ListN.{length, replicate}
 use borrow.Author.Tests.{eq-eqb, ne_eqb, eqb-true}
 use Rattle.model.specs.declared.Config.{Config}
@@ -15,14 +15,13 @@ use Rattle.model.specs.Session.{World, slots_of, guest_at}
 use Rattle.model.specs.View.{owned, live_at, find, is_live, session_in, present}
 use Rattle.model.specs.Act.{attach, wipe, table_after, store_after}
 use Rattle.model.specs.Setup.{config_of, set_up_order, set_up_answer, fresh_table, set_up, attach_checks}
-use Rattle.model.specs.Data.{part_of, finish_checks, status}
+use Rattle.model.specs.Data.{part_of, key_checks, finish_checks, status}
 use Rattle.model.specs.Device.{Attach, Admit, Part, KeyAnswer, Key, Finish, no_job, Outcome, checks_of, outcome, checks, reply, next, world, bare}
-use Rattle.laws.specs.Judge.{first_passed}
+use Rattle.laws.specs.Judge.{first_passed, holds_at}
 use Rattle.laws.specs.Effect.{replied, granted_next, refused_next, find_bare}
 use Rattle.keystore.specs.Stored.{cleared, key_at}
 use Rattle.keystore.specs.StoredLaws.{found_key}
-use Rattle.device.specs.Stages.{sessionless, suited, admission, fetching}
-use Rattle.device.specs.Answers.{data_stop, data_job}
+use Rattle.device.specs.Stages.{admission, fetching}
 
 -- ---- set-up
 
@@ -104,24 +103,11 @@ module _ (t : Table) (g : ℕ) (r w : List ℕ) (a : ℕ) (e : a ≡ first_fail 
     unfolding outcome
     part_done z p h = rw (← replied (bare t) g (Part f r w) a parted, eq-eqb a ok z) h
 
--- a part, stage after stage: a is the answer of the checks that need no session, m that of the others
-module _ (t : Table) (g : ℕ) (r w : List ℕ) (a : ℕ) (here : Bool) (f : Field) (hh : here ≡ present g (guest_at t g))
-    (e : a ≡ first_fail (sessionless t.config here r (length w))) where
-  pub part_stop : (a ≡ 0 → ⊥) → [] ≡ (reply (bare t) g (Part f r w)).bytes
-  part_stop d = part_refused t g r w a (data_stop t g r (length w) a here hh e d) f d
-
-  module _ (m at n : ℕ) (x : Session) (z : a ≡ 0) (hn : n ≡ le64 r 8) (ha : ltb at 128 ≡ is_live (find (bare t) g n)) (hx : x ≡ session_in (find (bare t) g n))
-      (q : m ≡ first_fail (suited t.config (ltb at 128) x r (length w))) where
-    judged : m ≡ first_fail (admission t g r (length w))
-    judged = data_job t g r (length w) a here hh e m at n x z hn ha hx q
-
-    pub part_empty : (m ≡ 0 → ⊥) → [] ≡ (reply (bare t) g (Part f r w)).bytes
-    part_empty d = part_refused t g r w m judged f d
-
-    pub part_whole : m ≡ 0 → (p : List ℕ) → p ≡ part_of f r → p ≡ (reply (bare t) g (Part f r w)).bytes
-    part_whole y p h = part_done t g r w m judged f y p h
-
 -- ---- key fetch
+
+-- one that passes names a live session
+pub fetch_alive : (store : ℕ) (here alive : Bool) → ok ≡ first_fail (key_checks store here alive) → alive ≡ true
+fetch_alive store here alive e = holds_at (key_checks store here alive) 2 (first_passed (key_checks store here alive) refl (sym e))
 
 module _ (t : Table) (b : List ℕ) (g n a : ℕ) (e : a ≡ first_fail (fetching t g n (length b))) where
   abbrev v : World
@@ -139,10 +125,14 @@ module _ (t : Table) (b : List ℕ) (g n a : ℕ) (e : a ≡ first_fail (fetchin
   unfolding outcome
   key_refused d = rw (← replied v g (Key n) a fetched, ne_eqb a ok d) refl
 
-  pub key_done : a ≡ 0 → (at : ℕ) (x : Session) → at ≡ live_at t g n → ltb at 128 ≡ is_live (find (bare t) g n) → x ≡ session_in (find (bare t) g n)
+  -- at and x are the place and the session that the fetch found
+  pub key_done : a ≡ 0 → (at : ℕ) (x : Session) → (at ≡ live_at t g n) × (at < 128) → x ≡ session_in (find (bare t) g n)
       → (p : List ℕ) → p ≡ key_at b at x → p ≡ (reply v g (Key n)).bytes
   unfolding outcome
-  key_done z at x hp ha hx p h = rw (← replied v g (Key n) a fetched, eq-eqb a ok z) (h ∙ found_key t b g n at x hp ha hx)
+  key_done z at x hp hx p h =
+      let passed = first_passed (fetching t g n (length b)) refl (sym e ∙ z) in
+      let alive : ltb at 128 ≡ is_live (find (bare t) g n) = lt-ltb at 128 hp.1 ∙ sym (holds_at (fetching t g n (length b)) 2 passed) in
+      rw (← replied v g (Key n) a fetched, eq-eqb a ok z) (h ∙ found_key t b g n at x hp.0 alive hx)
 
 -- ---- finish
 

@@ -1,6 +1,6 @@
 -- The checks of the calls, as the functions of this crate ask for them: of table t, guest g, readable bytes r, `room` writable bytes and a key
 -- store of `store` bytes. Each is a list of the crate model.
-use Rattle.std.specs.Prelude.{ℕ, Bool, not, List, [], ◌∷◌, ◌++◌, length}
+use Rattle.std.specs.Prelude.{ℕ, Bool, cond, not, List, [], ◌∷◌, ◌++◌, length}
 use Rattle.model.specs.declared.Config.{Config}
 use Rattle.model.specs.declared.Session.{Session}
 use Rattle.model.specs.declared.Table.{Table}
@@ -8,7 +8,7 @@ use Rattle.model.specs.Bytes.{le32}
 use Rattle.model.specs.Answer.{err, nospc, Check}
 use Rattle.model.specs.Session.{guest_at}
 use Rattle.model.specs.View.{Setting, view, full, find, is_live, present}
-use Rattle.model.specs.Control.{opcode, plain_create, asked, place_checks, head_checks, session_checks, numbers_left, create_checks, destroy_checks}
+use Rattle.model.specs.Control.{opcode, is_create, plain_create, asked, place_checks, head_checks, session_checks, numbers_left, create_checks, destroy_checks}
 use Rattle.model.specs.Data.{number, lengths, operation_checks, job_checks, data_checks, key_checks}
 use Rattle.model.specs.Device.{bare}
 
@@ -31,6 +31,10 @@ granting t g = (numbers_left (view (bare t) g), err) ∷ (not (full t g), nospc)
 -- a destroy's
 abbrev pub destruction : Table → ℕ → List ℕ → ℕ → ℕ → List Check
 destruction t g r room store = destroy_checks (setting_of t store) g (view (bare t) g) r room
+
+-- a control request's
+abbrev pub changing : Table → ℕ → List ℕ → ℕ → ℕ → List Check
+changing t g r room store = cond (is_create r) (creation t g r room store) (destruction t g r room store)
 
 -- a data request's, and before it its two stages: without a session, and on the session x that was found, if it is alive
 abbrev pub sessionless : Config → Bool → List ℕ → ℕ → List Check

@@ -2,25 +2,30 @@
 // leaves is `reply` and `next` of its request, and `set_up`, in the crate model.
 #![tactic(auto)]
 
-ghost use Rattle.std.specs.Prelude.{◌≡◌, suc, ltb, length};
+ghost use Rattle.std.specs.Prelude.{◌≡◌, ◌<◌, suc, cond, length, is_some, unwrap_or, IfOk};
+ghost use Rattle.std.specs.Result.{result_unwrap_or};
 ghost use Rattle.model.specs.declared.Field.TheVariants.{Iv, Source, Aad};
 ghost use Rattle.model.specs.Bytes.{le64};
-ghost use Rattle.model.specs.Answer.{first_fail, control_bytes};
-ghost use Rattle.model.specs.Session.{guest_at};
+ghost use Rattle.model.specs.Answer.{first_fail, answer_in};
+ghost use Rattle.model.specs.Session.{guest_at, no_session};
 ghost use Rattle.model.specs.View.{find, live_at, is_live, session_in, present};
 ghost use Rattle.model.specs.Act.{create, destroy, table_after, store_after};
 ghost use Rattle.model.specs.Setup.{set_up_answer, set_up};
-ghost use Rattle.model.specs.Control.{new_entry};
+ghost use Rattle.model.specs.Control.{is_create, new_entry, control_act};
 ghost use Rattle.model.specs.Device.{Attach, Control, Admit, Part, KeyAnswer, Key, Finish, if_granted, reply, next, world, bare};
-ghost use Rattle.table.specs.Narrow.{number_after};
-ghost use Rattle.device.specs.Stages.{opening, form, granting, creation, destruction, fetching, sessionless, suited, admission};
+ghost use Rattle.table.specs.Search.{session_found};
+ghost use Rattle.device.specs.Grant.{IsNext};
+ghost use Rattle.device.specs.Stages.{opening, form, granting, creation, destruction, changing, fetching, sessionless, suited, admission};
+
+use model::{CREATE, Config, Field, OK, Refusal, Session, Table, check};
+use table::Found;
 
 // An answer, and the table afterwards.
 #[repr(C)]
 #[derive(Clone, Copy)]
 pub struct Reply {
     pub answer: u8,
-    pub table: model::Table,
+    pub table: Table,
 }
 
 // An answer, and what an accepted data request names; zeros on refusal.
@@ -33,11 +38,11 @@ pub struct Admission {
     pub opcode: u32,
 }
 
-// An answer on a session that a request names, and where that was found.
+// What a create is granted: its slot and its session number.
 #[derive(Clone, Copy)]
-struct Choice {
-    answer: u8,
-    found: table::Found,
+struct Grant {
+    at: usize,
+    number: u64,
 }
 
 // A table with all slots free and a key store of zeros; a refusal gives the empty table and leaves the store.
@@ -47,56 +52,83 @@ pub fn set_up(config: &[u8], reserves: [u8; 8], caps: [u8; 8], store: &mut [u8])
     ensures store { store.new ≡ (set_up config.now reserves caps store.old).store }
 {
     let k = request::config_of(config);
-    let answer = request::set_up_answer(store.len(), config.len(), k, reserves, caps);
-    if answer != model::OK {
-        let none = request::config_of(b"");
-        return Reply {
-            answer,
-            table: table::fresh(none, [0; 8], [0; 8]),
-        };
-    }
-    keystore::clear_all(store);
-    Reply {
-        answer,
-        table: table::fresh(k, reserves, caps),
+    let outcome = request::set_up_answer(store.len(), config.len(), k, reserves, caps);
+    match outcome {
+        Ok(()) => {
+            keystore::clear_all(store);
+            Reply {
+                answer: OK,
+                table: table::fresh(k, reserves, caps),
+            }
+        }
+        Err(_) => {
+            let none = request::config_of(b"");
+            Reply {
+                answer: model::answer(outcome),
+                table: table::fresh(none, [0; 8], [0; 8]),
+            }
+        }
     }
 }
 
+// An attach in place: frees the guest's slots, zeroes their key areas and restarts its numbers.
+fn reset(t: &mut Table, guest: u8, word: u32, store: &mut [u8]) -> Result<(), Refusal>
+    ensures answer { answer_in result ≡ (reply (world t.old store.old) guest (Attach word)).answer }
+    ensures table { t.new ≡ (next (world t.old store.old) guest (Attach word)).table }
+    ensures store { store.new ≡ (next (world t.old store.old) guest (Attach word)).store }
+{
+    request::attach_answer(store.len(), guest, word)?;
+    keystore::clear_guest(store, t, guest);
+    table::attached(t, guest);
+    Ok(())
+}
+
 // Frees the guest's slots, zeroes their key areas and restarts its numbers.
-pub fn attach(t: model::Table, guest: u8, word: u32, store: &mut [u8]) -> Reply
+pub fn attach(t: Table, guest: u8, word: u32, store: &mut [u8]) -> Reply
     ensures answer { result.answer ≡ (reply (world t store.old) guest (Attach word)).answer }
     ensures table { result.table ≡ (next (world t store.old) guest (Attach word)).table }
     ensures store { store.new ≡ (next (world t store.old) guest (Attach word)).store }
 {
-    let answer = request::attach_answer(store.len(), guest, word);
-    if answer != model::OK {
-        return Reply { answer, table: t };
-    }
-    keystore::clear_guest(store, t, guest);
+    let mut next = t;
+    let outcome = reset(&mut next, guest, word, store);
     Reply {
-        answer,
-        table: table::attached(t, guest),
+        answer: model::answer(outcome),
+        table: next,
     }
 }
 
 // The guest is at most 7 and attached.
-fn is_here(t: model::Table, guest: u8) -> bool
-    ensures { result ≡ present guest (guest_at t guest) }
+fn is_here(t: &Table, guest: u8) -> bool
+    ensures { result ≡ present guest (guest_at t.now guest) }
 {
     table::is_present(guest, table::guest_at(t, guest))
 }
 
-// Steps 1 to 3 of a control request. It takes what it needs of the table, and not the table, which would be copied.
-fn opening_answer(k: model::Config, here: bool, readable: &[u8], room: usize, store: usize) -> u8
-    ensures { result ≡ first_fail (opening k here readable.now room store) }
+// The session that was found.
+fn session_of(found: Option<Found>) -> Option<Session>
+    ensures alive { is_some result ≡ is_some found }
+    ensures session { unwrap_or result no_session ≡ session_found found }
+{
+    found.map(|found| found.session)
+}
+
+// Steps 1 to 3 of a control request.
+fn opening_answer(
+    k: Config,
+    here: bool,
+    readable: &[u8],
+    room: usize,
+    store: usize,
+) -> Result<(), Refusal>
+    ensures { answer_in result ≡ first_fail (opening k here readable.now room store) }
 {
     let op = wire::le32(readable, 0);
     request::control_answer(k, store, here, op, readable.len(), room)
 }
 
 // Step 4 up to the session number.
-fn form_answer(k: model::Config, readable: &[u8]) -> u8
-    ensures { result ≡ first_fail (form k readable.now) }
+fn form_answer(k: Config, readable: &[u8]) -> Result<(), Refusal>
+    ensures { answer_in result ≡ first_fail (form k readable.now) }
 {
     let plain = request::is_plain(readable);
     let head = wire::le32(readable, 4);
@@ -104,295 +136,256 @@ fn form_answer(k: model::Config, readable: &[u8]) -> u8
 }
 
 // The session number and the room for a create.
-fn grant_answer(t: model::Table, guest: u8) -> u8
-    ensures { result ≡ first_fail (granting t guest) }
+fn grant_answer(t: &Table, guest: u8) -> Result<Grant, Refusal>
+    ensures answer { answer_in result ≡ first_fail (granting t.now guest) }
+    ensures grant { IfOk result (IsNext t.now guest) }
 {
-    let r = table::guest_at(t, guest);
-    if model::LAST_NUMBER <= r.last {
-        return model::ERR;
-    }
-    if !table::has_room(t, guest) {
-        return model::NOSPC;
-    }
-    model::OK
+    let number = table::next_number(table::guest_at(t, guest)).ok_or(Refusal::Error)?;
+    check(table::has_room(t, guest), Refusal::NoSpace)?;
+    let at = table::first_free(t).unwrap();
+    Ok(Grant { at, number })
 }
 
-// All checks of a create.
-fn create_answer(t: model::Table, guest: u8, readable: &[u8], room: usize, store: usize) -> u8
-    ensures { result ≡ first_fail (creation t guest readable.now room store) }
+// All checks of a create, and what it is granted.
+fn create_answer(
+    t: &Table,
+    guest: u8,
+    readable: &[u8],
+    room: usize,
+    store: usize,
+) -> Result<Grant, Refusal>
+    ensures answer { answer_in result ≡ first_fail (creation t.now guest readable.now room store) }
+    ensures grant { IfOk result (IsNext t.now guest) }
 {
-    let k = t.config;
-    let first = opening_answer(k, is_here(t, guest), readable, room, store);
-    if first != model::OK {
-        return first;
-    }
-    let second = form_answer(k, readable);
-    if second != model::OK {
-        return second;
-    }
+    opening_answer(t.config, is_here(t, guest), readable, room, store)?;
+    form_answer(t.config, readable)?;
     grant_answer(t, guest)
 }
 
-// The number of the guest's next session where a create is granted, else 0.
-fn number_for(answer: u8, r: model::Guest) -> u64
-    ensures { result ≡ if_granted answer (number_after r.last) 0 }
-{
-    if answer != model::OK {
-        return 0;
-    }
-    table::next_number(r)
-}
-
-// The slot that a granted request changes; 128 on refusal, which is no slot, so that nothing changes and one table is built for both.
-fn place_for(answer: u8, at: usize) -> usize
-    ensures { result ≡ if_granted answer at 128 }
-{
-    if answer != model::OK {
-        return 128;
-    }
-    at
-}
-
-// A new session in the lowest free slot, and its whole key area.
+// A new session in the lowest free slot, and its whole key area; hands on its number.
 fn create(
-    t: model::Table,
+    t: &mut Table,
     guest: u8,
     readable: &[u8],
-    writable: &mut [u8],
+    room: usize,
     store: &mut [u8],
-) -> Reply
-    ensures answer { result.answer ≡ first_fail (creation t guest readable.now (length writable.old) (length store.old)) }
-    ensures table { result.table ≡ if_granted result.answer (table_after t guest (create (new_entry readable.now))) t }
-    ensures store { store.new ≡ if_granted result.answer (store_after t store.old guest (create (new_entry readable.now))) store.old }
-    ensures writable { writable.new ≡ control_bytes writable.old (if_granted result.answer (suc (guest_at t guest).last) 0) result.answer }
+) -> Result<u64, Refusal>
+    ensures answer { answer_in result ≡ first_fail (creation t.old guest readable.now room (length store.old)) }
+    ensures number { IfOk result (λ number. number ≡ suc (guest_at t.old guest).last) }
+    ensures table { t.new ≡ if_granted (answer_in result) (table_after t.old guest (create (new_entry readable.now))) t.old }
+    ensures store { store.new ≡ if_granted (answer_in result) (store_after t.old store.old guest (create (new_entry readable.now))) store.old }
 {
-    let answer = create_answer(t, guest, readable, writable.len(), store.len());
-    let r = table::guest_at(t, guest);
-    let number = number_for(answer, r);
-    wire::put_control(writable, number, answer);
+    let Grant { at, number } = create_answer(t, guest, readable, room, store.len())?;
     let x = request::asked(readable);
-    let at = place_for(answer, table::first_free(t));
     let start = 16 + request::create_part(x.service);
     let key = wire::part(readable, start, x.keylen as usize);
     keystore::put_key(store, at, x.service, key);
-    Reply {
-        answer,
-        table: table::granted(t, guest, r, at, number, x),
-    }
+    let r = table::guest_at(t, guest);
+    table::granted(t, guest, r, at, number, x);
+    Ok(number)
 }
 
-// All checks of a destroy, and the session that it names.
-fn destroy_choice(t: model::Table, guest: u8, readable: &[u8], room: usize, store: usize) -> Choice
-    ensures answer { result.answer ≡ first_fail (destruction t guest readable.now room store) }
-    ensures at { result.found.at ≡ live_at t guest (le64 readable.now 16) }
-    ensures alive { ltb result.found.at 128 ≡ is_live (find (bare t) guest (le64 readable.now 16)) }
-{
-    let found = table::lookup(t, guest, wire::le64(readable, 16));
-    let first = opening_answer(t.config, is_here(t, guest), readable, room, store);
-    if first != model::OK {
-        return Choice {
-            answer: first,
-            found,
-        };
-    }
-    let op = wire::le32(readable, 0);
-    let answer = request::destroy_answer(found.at < 128, found.session, op, readable.len());
-    Choice { answer, found }
-}
-
-// The session's slot freed, its fields cleared and its key area zeroed.
-fn destroy(
-    t: model::Table,
+// All checks of a destroy, and where the session that it names was found.
+#[tactic(auto, using(crate::specs::Answers::ends_alive), unfolding(model::specs::Answer::first_fail))]
+fn destroy_answer(
+    t: &Table,
     guest: u8,
     readable: &[u8],
-    writable: &mut [u8],
-    store: &mut [u8],
-) -> Reply
-    ensures answer { result.answer ≡ first_fail (destruction t guest readable.now (length writable.old) (length store.old)) }
-    ensures table { result.table ≡ if_granted result.answer (table_after t guest (destroy (le64 readable.now 16))) t }
-    ensures store { store.new ≡ if_granted result.answer (store_after t store.old guest (destroy (le64 readable.now 16))) store.old }
-    ensures writable { writable.new ≡ control_bytes writable.old 0 result.answer }
+    room: usize,
+    store: usize,
+) -> Result<usize, Refusal>
+    ensures answer { answer_in result ≡ first_fail (destruction t.now guest readable.now room store) }
+    ensures place { IfOk result (λ at. (at ≡ live_at t.now guest (le64 readable.now 16)) × (at < 128)) }
 {
-    let choice = destroy_choice(t, guest, readable, writable.len(), store.len());
-    let answer = choice.answer;
-    wire::put_control(writable, 0, answer);
-    let found = choice.found;
-    let at = place_for(answer, found.at);
+    opening_answer(t.config, is_here(t, guest), readable, room, store)?;
+    let found = table::lookup(t, guest, wire::le64(readable, 16));
+    let op = wire::le32(readable, 0);
+    request::destroy_answer(session_of(found), op, readable.len())?;
+    Ok(found.unwrap().at)
+}
+
+// The session's slot freed, its fields cleared and its key area zeroed; a destroy names session 0.
+fn destroy(
+    t: &mut Table,
+    guest: u8,
+    readable: &[u8],
+    room: usize,
+    store: &mut [u8],
+) -> Result<u64, Refusal>
+    ensures answer { answer_in result ≡ first_fail (destruction t.old guest readable.now room (length store.old)) }
+    ensures number { IfOk result (λ number. number ≡ 0) }
+    ensures table { t.new ≡ if_granted (answer_in result) (table_after t.old guest (destroy (le64 readable.now 16))) t.old }
+    ensures store { store.new ≡ if_granted (answer_in result) (store_after t.old store.old guest (destroy (le64 readable.now 16))) store.old }
+{
+    let at = destroy_answer(t, guest, readable, room, store.len())?;
     keystore::clear_area(store, at);
-    Reply {
-        answer,
-        table: table::without_slot(t, at),
+    table::without_slot(t, at);
+    Ok(0)
+}
+
+// A create or a destroy in place, and the session number of its outcome.
+fn change(
+    t: &mut Table,
+    guest: u8,
+    readable: &[u8],
+    room: usize,
+    store: &mut [u8],
+) -> Result<u64, Refusal>
+    ensures answer { answer_in result ≡ first_fail (changing t.old guest readable.now room (length store.old)) }
+    ensures number { result_unwrap_or result 0 ≡ if_granted (answer_in result) (cond (is_create readable.now) (suc (guest_at t.old guest).last) 0) 0 }
+    ensures table { t.new ≡ if_granted (answer_in result) (table_after t.old guest (control_act readable.now)) t.old }
+    ensures store { store.new ≡ if_granted (answer_in result) (store_after t.old store.old guest (control_act readable.now)) store.old }
+{
+    if wire::le32(readable, 0) % 256 == CREATE {
+        create(t, guest, readable, room, store)
+    } else {
+        destroy(t, guest, readable, room, store)
     }
 }
 
 // A create or a destroy.
-pub fn control(
-    t: model::Table,
-    guest: u8,
-    readable: &[u8],
-    writable: &mut [u8],
-    store: &mut [u8],
-) -> Reply
+pub fn control(t: Table, guest: u8, readable: &[u8], writable: &mut [u8], store: &mut [u8]) -> Reply
     ensures answer { result.answer ≡ (reply (world t store.old) guest (Control readable.now writable.old)).answer }
     ensures table { result.table ≡ (next (world t store.old) guest (Control readable.now writable.old)).table }
     ensures store { store.new ≡ (next (world t store.old) guest (Control readable.now writable.old)).store }
     ensures writable { writable.new ≡ (reply (world t store.old) guest (Control readable.now writable.old)).writable }
 {
-    let op = wire::le32(readable, 0);
-    if op % 256 == 2 {
-        return create(t, guest, readable, writable, store);
+    let mut next = t;
+    let outcome = change(&mut next, guest, readable, writable.len(), store);
+    let answer = model::answer(outcome);
+    wire::put_control(writable, outcome.unwrap_or(0), answer);
+    Reply {
+        answer,
+        table: next,
     }
-    destroy(t, guest, readable, writable, store)
 }
 
 // The checks of a data request that need no session.
-fn first_answer(k: model::Config, here: bool, readable: &[u8], room: usize) -> u8
-    ensures { result ≡ first_fail (sessionless k here readable.now room) }
+fn first_answer(k: Config, here: bool, readable: &[u8], room: usize) -> Result<(), Refusal>
+    ensures { answer_in result ≡ first_fail (sessionless k here readable.now room) }
 {
     let op = wire::le32(readable, 0);
     let flag = wire::le32(readable, 16);
     request::operation_answer(k, here, op, flag, readable.len(), room)
 }
 
-// The checks on the session found and on the lengths.
-fn last_answer(k: model::Config, found: table::Found, readable: &[u8], room: usize) -> u8
-    ensures { result ≡ first_fail (suited k (ltb found.at 128) found.session readable.now room) }
+// The checks on the session x that is named, if that is live, and on the lengths.
+fn last_answer(k: Config, x: Option<Session>, readable: &[u8], room: usize) -> Result<(), Refusal>
+    ensures { answer_in result ≡ first_fail (suited k (is_some x) (unwrap_or x no_session) readable.now room) }
 {
     let op = wire::le32(readable, 0);
     let plain = request::is_plain(readable);
     let n = request::lengths(readable);
-    let len = readable.len();
-    request::job_answer(k, found.at < 128, found.session, op, plain, n, len, room)
+    request::job_answer(k, x, op, plain, n, readable.len(), room)
 }
 
-// All checks of a data request, the slots last. For `admit` alone: as its only caller it takes this in, and the table is not copied on the way.
-fn data_answer(t: model::Table, guest: u8, readable: &[u8], room: usize) -> u8
-    ensures { result ≡ first_fail (admission t guest readable.now room) }
+// All checks of a data request, the slots last.
+#[tactic(auto, unfolding(model::specs::Answer::first_fail))]
+fn data_answer(t: &Table, guest: u8, readable: &[u8], room: usize) -> Result<(), Refusal>
+    ensures { answer_in result ≡ first_fail (admission t.now guest readable.now room) }
 {
-    let first = first_answer(t.config, is_here(t, guest), readable, room);
-    if first != model::OK {
-        return first;
-    }
+    first_answer(t.config, is_here(t, guest), readable, room)?;
     let found = table::lookup(t, guest, wire::le64(readable, 8));
-    last_answer(t.config, found, readable, room)
+    last_answer(t.config, session_of(found), readable, room)
 }
 
 // Takes or refuses a data request.
-pub fn admit(t: model::Table, guest: u8, readable: &[u8], writable: &mut [u8]) -> Admission
+pub fn admit(t: Table, guest: u8, readable: &[u8], writable: &mut [u8]) -> Admission
     ensures answer { result.answer ≡ (reply (bare t) guest (Admit readable.now writable.old)).answer }
     ensures job { record { guest = result.guest; number = result.number; opcode = result.opcode } ≡ (reply (bare t) guest (Admit readable.now writable.old)).job }
     ensures writable { writable.new ≡ (reply (bare t) guest (Admit readable.now writable.old)).writable }
 {
-    let answer = data_answer(t, guest, readable, writable.len());
+    let outcome = data_answer(&t, guest, readable, writable.len());
+    let answer = model::answer(outcome);
     wire::put_data(writable, answer);
-    if answer != model::OK {
-        return Admission {
+    match outcome {
+        Ok(()) => Admission {
+            answer,
+            guest,
+            number: wire::le64(readable, 8),
+            opcode: wire::le32(readable, 0),
+        },
+        Err(_) => Admission {
             answer,
             guest: 0,
             number: 0,
             opcode: 0,
-        };
-    }
-    let number = wire::le64(readable, 8);
-    let opcode = wire::le32(readable, 0);
-    Admission {
-        answer,
-        guest,
-        number,
-        opcode,
+        },
     }
 }
 
 // A variable part of a data request; empty where it is refused.
-fn part<'a, 'b>(
-    t: model::Table,
-    guest: u8,
-    readable: &'a [u8],
-    writable: &'b [u8],
-    field: model::Field,
-) -> &'a [u8]
+pub fn part<'a>(t: Table, guest: u8, readable: &'a [u8], writable: &[u8], field: Field) -> &'a [u8]
     ensures { result.now ≡ (reply (bare t) guest (Part field readable.now writable.now)).bytes }
 {
-    let first = first_answer(t.config, is_here(t, guest), readable, writable.len());
-    if first != model::OK {
-        return &readable[0..0];
+    match data_answer(&t, guest, readable, writable.len()) {
+        Ok(()) => request::part(readable, field),
+        Err(_) => &[],
     }
-    let found = table::lookup(t, guest, wire::le64(readable, 8));
-    let last = last_answer(t.config, found, readable, writable.len());
-    if last != model::OK {
-        return &readable[0..0];
-    }
-    request::part(readable, field)
 }
 
-// The IV of an accepted data request.
-pub fn iv<'a, 'b>(t: model::Table, guest: u8, readable: &'a [u8], writable: &'b [u8]) -> &'a [u8]
+// The IV of an accepted data request: `part` of a field, as are the two below it; each of the three is a call by a name of its own.
+pub fn iv<'a>(t: Table, guest: u8, readable: &'a [u8], writable: &[u8]) -> &'a [u8]
     ensures { result.now ≡ (reply (bare t) guest (Part Iv readable.now writable.now)).bytes }
 {
-    part(t, guest, readable, writable, model::Field::Iv)
+    part(t, guest, readable, writable, Field::Iv)
 }
 
 // Its source.
-pub fn source<'a, 'b>(
-    t: model::Table,
-    guest: u8,
-    readable: &'a [u8],
-    writable: &'b [u8],
-) -> &'a [u8]
+pub fn source<'a>(t: Table, guest: u8, readable: &'a [u8], writable: &[u8]) -> &'a [u8]
     ensures { result.now ≡ (reply (bare t) guest (Part Source readable.now writable.now)).bytes }
 {
-    part(t, guest, readable, writable, model::Field::Source)
+    part(t, guest, readable, writable, Field::Source)
 }
 
 // Its AAD.
-pub fn aad<'a, 'b>(t: model::Table, guest: u8, readable: &'a [u8], writable: &'b [u8]) -> &'a [u8]
+pub fn aad<'a>(t: Table, guest: u8, readable: &'a [u8], writable: &[u8]) -> &'a [u8]
     ensures { result.now ≡ (reply (bare t) guest (Part Aad readable.now writable.now)).bytes }
 {
-    part(t, guest, readable, writable, model::Field::Aad)
+    part(t, guest, readable, writable, Field::Aad)
 }
 
 // The checks of a key fetch from a store of `size` bytes, and the session.
-fn fetch(t: model::Table, guest: u8, number: u64, size: usize) -> Choice
-    ensures answer { result.answer ≡ first_fail (fetching t guest number size) }
-    ensures at { result.found.at ≡ live_at t guest number }
-    ensures alive { ltb result.found.at 128 ≡ is_live (find (bare t) guest number) }
-    ensures session { result.found.session ≡ session_in (find (bare t) guest number) }
+#[tactic(auto, using(crate::specs::Calls::fetch_alive))]
+fn fetch(t: &Table, guest: u8, number: u64, size: usize) -> Result<Found, Refusal>
+    ensures answer { answer_in result ≡ first_fail (fetching t.now guest number size) }
+    ensures place { IfOk result (λ found. (found.at ≡ live_at t.now guest number) × (found.at < 128)) }
+    ensures session { IfOk result (λ found. found.session ≡ session_in (find (bare t.now) guest number)) }
 {
     let found = table::lookup(t, guest, number);
-    let answer = request::key_answer(size, is_here(t, guest), found.at < 128);
-    Choice { answer, found }
+    request::key_answer(size, is_here(t, guest), found.is_some())?;
+    Ok(found.unwrap())
 }
 
 // The answer of a key fetch.
-pub fn key_answer(t: model::Table, guest: u8, number: u64, store: &[u8]) -> u8
+pub fn key_answer(t: Table, guest: u8, number: u64, store: &[u8]) -> u8
     ensures { result ≡ (reply (world t store.now) guest (KeyAnswer number)).answer }
 {
-    let choice = fetch(t, guest, number, store.len());
-    choice.answer
+    model::answer(fetch(&t, guest, number, store.len()))
 }
 
 // The key of a live session, a part of the store; empty where the answer is not 0.
-pub fn key<'a>(t: model::Table, guest: u8, number: u64, store: &'a [u8]) -> &'a [u8]
+pub fn key(t: Table, guest: u8, number: u64, store: &[u8]) -> &[u8]
     ensures { result.now ≡ (reply (world t store.now) guest (Key number)).bytes }
 {
-    let choice = fetch(t, guest, number, store.len());
-    if choice.answer != model::OK {
-        return &store[0..0];
+    match fetch(&t, guest, number, store.len()) {
+        Ok(found) => keystore::key_part(store, found.at, found.session),
+        Err(_) => &[],
     }
-    let found = choice.found;
-    keystore::key_part(store, found.at, found.session)
 }
 
 // Writes the verdict of the host's crypto call; answers the byte written.
-pub fn finish(t: model::Table, guest: u8, opcode: u32, verdict: u8, writable: &mut [u8]) -> u8
+pub fn finish(t: Table, guest: u8, opcode: u32, verdict: u8, writable: &mut [u8]) -> u8
     ensures answer { result ≡ (reply (bare t) guest (Finish opcode verdict writable.old)).answer }
     ensures writable { writable.new ≡ (reply (bare t) guest (Finish opcode verdict writable.old)).writable }
 {
-    let answer = request::finish_answer(is_here(t, guest), writable.len());
-    if answer != model::OK {
-        return answer;
+    let outcome = request::finish_answer(is_here(&t, guest), writable.len());
+    match outcome {
+        Ok(()) => {
+            let status = request::status_of(opcode, verdict);
+            wire::put_status(writable, status);
+            status
+        }
+        Err(_) => model::answer(outcome),
     }
-    let status = request::status_of(opcode, verdict);
-    wire::put_status(writable, status);
-    status
 }

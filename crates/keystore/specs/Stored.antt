@@ -1,16 +1,10 @@
 -- What the functions of the key store leave where the store has not its 16,384 bytes or the slot is above 127: all as it was.
-use Rattle.std.specs.Prelude.{ℕ, ◌+◌, ◌*◌, cond, ◌&&◌, List, [], ◌∷◌, ltb, length}
+use Rattle.std.specs.Prelude.{ℕ, ◌+◌, ◌*◌, cond, ◌&&◌, List, [], ltb, length}
 use Rattle.model.specs.declared.Session.{Session}
 use Rattle.model.specs.Bytes.{part}
 use Rattle.model.specs.Session.{slot_count, area_size, key_start, key_len}
 use Rattle.model.specs.View.{sized}
 use Rattle.model.specs.Act.{with_area}
-
--- a key laid over the front of a list, as much of it as there is room for
-unfoldable pub laid : List ℕ → List ℕ → List ℕ
-laid [] l = l
-laid (x ∷ k) [] = []
-laid (x ∷ k) (y ∷ l) = x ∷ laid k l
 
 -- the store with the area of slot i replaced by a
 unfoldable pub stored : List ℕ → ℕ → List ℕ → List ℕ

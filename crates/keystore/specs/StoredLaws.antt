@@ -1,12 +1,12 @@
 -- Laws of what the functions of the key store leave, one for each way out of them.
 -- Assumes nothing.
-use Rattle.std.specs.Prelude.{ℕ, zero, suc, ◌+◌, ◌*◌, ◌≤◌, ◌<◌, ◌≡◌, refl, Bool, true, false, cond, List, [], ◌∷◌, ◌++◌, eqb, ltb, length, get_or, take, drop, replicate}
-use Rattle.std.proofs.Common.{sym, ap, ◌∙◌, arith, take-append-drop, take_all}
+use Rattle.std.specs.Prelude.{ℕ, zero, suc, ◌+◌, ◌-◌, ◌*◌, ◌≤◌, ◌<◌, min, ◌≡◌, refl, ◌⊎◌, Bool, true, false, cond, List, [], ◌∷◌, ◌++◌, eqb, ltb, length, get_or, take, drop, replicate}
+use Rattle.std.proofs.Common.{inl, inr, sym, ap, ◌∙◌, arith, take_all}
 use Rattle.std.proofs.Math.Option.{Option, none, some}
-use Rattle.std.proofs.Math.Seq.{take-nil, drop-nil}
+use Rattle.std.proofs.Math.Nat.{sub-zero, suc-sub-suc}
 use borrow.Author.Tests.{eq-eqb, ne_eqb, lt-ltb, le-ltb}
-use Rattle.lists.specs.Test.{both_ways, false_true, and_false}
-use Rattle.lists.specs.Splice.{splice, splice_fits, splice_then, filled}
+use Rattle.lists.specs.Test.{same, both_ways, false_true, and_false}
+use Rattle.lists.specs.Splice.{splice, splice_fits, splice_then}
 use Rattle.model.specs.declared.Session.{Session}
 use Rattle.model.specs.declared.Table.{Table}
 use Rattle.model.specs.Bytes.{part, padded}
@@ -20,66 +20,31 @@ use Rattle.laws.specs.Slots.{place_at_lem, slots_length}
 use Rattle.laws.specs.Effect.{find_bare}
 use Rattle.laws.specs.Found.{alive_accepted, key_found}
 use Rattle.laws.specs.Bounds.{key_fits}
-use Rattle.keystore.specs.Stored.{laid, stored, cleared, key_at}
+use Rattle.keystore.specs.Stored.{stored, cleared, key_at}
 
 -- ---- keys with zeros behind them
 
--- ---- the key is copied to the front, and the rest then zeroed
-
-pub length_laid : (k l : List ℕ) → length (laid k l) ≡ length l
-unfolding laid
-length_laid [] l = refl
-length_laid (x ∷ k) [] = refl
-length_laid (x ∷ k) (y ∷ l) = ap suc (length_laid k l)
-
--- a loop that stores the key's bytes one by one: the next one, and all
-pub laid_at : (k l : List ℕ) (i : ℕ) → i < length k → i < length l → get_or k i 0 ≡ get_or (laid k l) i 0
-unfolding laid
-laid_at [] l i h j = absurd (omega arith)
-laid_at (x ∷ k) [] i h j = absurd (omega arith)
-laid_at (x ∷ k) (y ∷ l) zero h j = refl
-laid_at (x ∷ k) (y ∷ l) (suc i) h j = laid_at k l i (omega arith) (omega arith)
-
-pub laid_all : (k l : List ℕ) (i : ℕ) → (i < length l → i < length k → ⊥) → filled i (laid k l) l ≡ laid k l
-unfolding laid filled
-laid_all [] l i h = take-append-drop i l
-laid_all (x ∷ k) [] i h = rw (take-nil i, drop-nil i)
-laid_all (x ∷ k) (y ∷ l) zero h = absurd (h (omega arith) (omega arith))
-laid_all (x ∷ k) (y ∷ l) (suc i) h = ap (λ (m : List ℕ). x ∷ m) (laid_all k l i (λ a b. h (omega arith) (omega arith)))
-
--- a loop that zeroes from `at` on: what is kept, and what is not
-pub kept_front : (l : List ℕ) (at : ℕ) → l ≡ filled at (padded (length l) (take at l)) l
-unfolding padded filled
-kept_front l at = sym (ap (λ (m : List ℕ). m ++ drop at l) (go l at) ∙ take-append-drop at l)
-  where
-    go : (m : List ℕ) (n : ℕ) → take n (padded (length m) (take n m)) ≡ take n m
-    go [] n = refl
-    go (x ∷ m) zero = refl
-    go (x ∷ m) (suc n) = ap (λ (r : List ℕ). x ∷ r) (go m n)
-
-pub zero_behind : (n : ℕ) (l : List ℕ) (at i : ℕ) → at ≤ i → 0 ≡ get_or (padded n (take at l)) i 0
-unfolding padded
-zero_behind zero l at i h = refl
-zero_behind (suc n) l zero zero h = refl
-zero_behind (suc n) l zero (suc i) h = zero_behind n [] zero i (omega arith)
-zero_behind (suc n) l (suc at) zero h = absurd (omega arith)
-zero_behind (suc n) [] (suc at) (suc i) h = zero_behind n [] zero i (omega arith)
-zero_behind (suc n) (x ∷ l) (suc at) (suc i) h = zero_behind n l at i (omega arith)
-
--- one after the other
-pub laid_cleared : (k l l₁ l₂ : List ℕ) → l₁ ≡ laid k l → l₂ ≡ padded (length l₁) (take (length k) l₁) → l₂ ≡ padded (length l) k
-unfolding laid padded
-laid_cleared k l l₁ l₂ e f = f ∙ rw (e, length_laid k l) (go k l)
-  where
-    go : (k l : List ℕ) → padded (length l) (take (length k) (laid k l)) ≡ padded (length l) k
-    go [] l = refl
-    go (x ∷ k) [] = refl
-    go (x ∷ k) (y ∷ l) = ap (λ (m : List ℕ). x ∷ m) (go k l)
-
-pub padded_empty : (n : ℕ) → padded n [] ≡ replicate n 0
+padded_empty : (n : ℕ) → padded n [] ≡ replicate n 0
 unfolding padded
 padded_empty zero = refl
 padded_empty (suc n) = ap (λ (l : List ℕ). 0 ∷ l) (padded_empty n)
+
+-- m bytes of the key, all or as many as there is room for, and zeros behind them
+padded_front : (n m : ℕ) (k : List ℕ) → m ≤ n → m ≤ length k → (m < n → m ≡ length k) → take m k ++ replicate (n - m) 0 ≡ padded n k
+unfolding padded
+padded_front zero zero k h l e = refl
+padded_front (suc n) zero [] h l e = rw sub-zero (sym (padded_empty (suc n)))
+padded_front (suc n) zero (x ∷ k) h l e = absurd (omega (arith, e (omega arith)))
+padded_front zero (suc m) k h l e = absurd (omega arith)
+padded_front (suc n) (suc m) [] h l e = absurd (omega arith)
+padded_front (suc n) (suc m) (x ∷ k) h l e =
+    ap (λ (r : List ℕ). x ∷ r) (rw suc-sub-suc (padded_front n m k (omega arith) (omega arith) (λ j. omega (arith, e (omega arith)))))
+
+-- the same of what is found in front and behind
+pub key_laid : (n m j : ℕ) (k f b : List ℕ) → m ≡ min (length k) n → f ≡ take m k → b ≡ replicate j 0 → j + m ≡ n → f ++ b ≡ padded n k
+key_laid n m j k f b e x y z =
+    let behind : j ≡ n - m = omega arith in
+    rw (x, y, behind) (padded_front n m k (omega arith) (omega arith) (λ h. omega arith))
 
 pub no_keys : key_area [] [] ≡ zeros
 unfolding key_area padded
@@ -96,7 +61,7 @@ module _ (b : List ℕ) (i : ℕ) (a : List ℕ) where
   unfolding stored
   stored_past h = rw (le-ltb _ _ h, and_false (sized (length b)))
 
-  pub stored_in : length b ≡ 16384 → i < 128 → stored b i a ≡ with_area b i a
+  stored_in : length b ≡ 16384 → i < 128 → stored b i a ≡ with_area b i a
   unfolding stored
   stored_in h k = rw (eq-eqb _ _ h, lt-ltb _ _ k)
 
@@ -117,24 +82,50 @@ put_halves b b₁ b₂ i front back h k e₁ e₂ =
 
 -- ---- the areas of one guest
 
--- a loop over the slots: one more; cur is the store that it has, out what it then has, and held the mark that it found
-pub clear_more : (t : Table) (g i : ℕ) (held : Bool) (b cur out : List ℕ) → length t.slots ≡ 128 → i < 128 → length b ≡ 16384 → length cur ≡ length b
-    → cur ≡ wipe (owned g) (take i (slots_of t)) b
-    → held ≡ marked t.occupied i
-    → out ≡ cond (owned g (place_of held (get_or t.slots i (slot_of free)))) (stored cur i zeros) cur
-    → out ≡ wipe (owned g) (take (i + 1) (slots_of t)) b
-clear_more t g i held b cur out n h m k e d f =
-    let s : length (slots_of t) ≡ 128 = slots_length t n in
-    wipe_more (owned g) (slots_of t) b cur out i free (omega arith) (omega arith) e
-    (rw (place_at_lem t n i, ← d, ← stored_in cur i zeros (k ∙ m) h) f)
+module _ (t : Table) (n : length t.slots ≡ 128) (g : ℕ) (b : List ℕ) where
+  kept : (q : Bool) → cond q b b ≡ b
+  kept q = both_ways (λ (l : List ℕ). l ≡ b) q b b refl refl
 
--- all of them
-pub clear_done : (t : Table) (g i : ℕ) (b cur : List ℕ) → length t.slots ≡ 128 → 128 ≤ i → length b ≡ 16384
-    → cur ≡ wipe (owned g) (take i (slots_of t)) b → cur ≡ cleared b (wipe (owned g) (slots_of t) b)
-unfolding cleared
-clear_done t g i b cur n h m e =
-    let s : length (slots_of t) ≡ 128 = slots_length t n in
-    rw (eq-eqb _ _ m) (rw (take_all i (slots_of t) (omega arith)) at e)
+  cleared_in : (l : List ℕ) → length b ≡ 16384 → cleared b l ≡ l
+  unfolding cleared
+  cleared_in l k = rw (eq-eqb _ _ k)
+
+  cleared_unsized : (l : List ℕ) → (length b ≡ 16384 → ⊥) → cleared b l ≡ b
+  unfolding cleared
+  cleared_unsized l k = rw (ne_eqb _ _ k)
+
+  -- a loop over the slots: none seen
+  pub clear_none : b ≡ cleared b (wipe (owned g) [] b)
+  unfolding cleared wipe
+  clear_none = sym (kept (sized (length b)))
+
+  -- one more; cur is the store that it has, out what it then has, and held the mark that it found
+  pub clear_more : (i : ℕ) (held : Bool) (cur out : List ℕ) → i < 128 → length cur ≡ length b
+      → cur ≡ cleared b (wipe (owned g) (take i (slots_of t)) b)
+      → held ≡ marked t.occupied i
+      → out ≡ cond (owned g (place_of held (get_or t.slots i (slot_of free)))) (stored cur i zeros) cur
+      → out ≡ cleared b (wipe (owned g) (take (i + 1) (slots_of t)) b)
+  clear_more i held cur out h m e d f = go (same (length b) 16384)
+    where
+      go : (length b ≡ 16384) ⊎ (length b ≡ 16384 → ⊥) → out ≡ cleared b (wipe (owned g) (take (i + 1) (slots_of t)) b)
+      go (inl k) =
+          let s : length (slots_of t) ≡ 128 = slots_length t n in
+          wipe_more (owned g) (slots_of t) b cur out i free (omega arith) (omega arith) (e ∙ cleared_in _ k)
+          (rw (place_at_lem t n i, ← d, ← stored_in cur i zeros (m ∙ k) h) f)
+          ∙ sym (cleared_in _ k)
+      go (inr k) =
+          let c : cur ≡ b = e ∙ cleared_unsized _ k in
+          f
+          ∙ ap (λ (l : List ℕ). cond (owned g (place_of held (get_or t.slots i (slot_of free)))) l cur) (sym (stored_unsized cur i zeros (λ j. k (sym m ∙ j))))
+          ∙ both_ways (λ (l : List ℕ). l ≡ cur) (owned g (place_of held (get_or t.slots i (slot_of free)))) cur cur refl refl
+          ∙ c
+          ∙ sym (cleared_unsized _ k)
+
+  -- all of them
+  pub clear_done : (i : ℕ) (cur : List ℕ) → 128 ≤ i → cur ≡ cleared b (wipe (owned g) (take i (slots_of t)) b) → cur ≡ cleared b (wipe (owned g) (slots_of t) b)
+  clear_done i cur h e =
+      let s : length (slots_of t) ≡ 128 = slots_length t n in
+      rw (take_all i (slots_of t) (omega arith)) at e
 
 -- ---- the key of a session
 

@@ -1,9 +1,8 @@
 -- The live session that a search of the slots found, and its key as a part of the store: laws for the proofs of the public calls.
 -- Assumes nothing.
 use Rattle.std.specs.Prelude.{◌≡◌, refl, Bool, true, false, cond, ◌&&◌, List, [], ◌∷◌, ℕ, zero, suc, ◌+◌, ◌*◌, ◌≤◌, ◌<◌, eqb, leb, ltb, length, take, drop}
-use Rattle.std.proofs.Common.{sym, ap, ◌∙◌, suc-add, zero-add, arith, drop-drop, take-take, ltb-true, ltb-false}
+use Rattle.std.proofs.Common.{sym, ap, ◌∙◌, suc-add, zero-add, drop-drop, take-take, ltb-true}
 use Rattle.std.proofs.Math.Option.{none, some}
-use Rattle.std.proofs.Math.ListN.{get_or-eq_default}
 use Rattle.std.proofs.Math.Seq.{take-nil}
 use Rattle.lists.specs.Test.{false_true, and_true}
 use Rattle.lists.specs.Seek.{first_passes, index_first}
@@ -28,16 +27,6 @@ module _ (w : World) (g n i : ℕ) (m : length (slots_of w.table) ≡ 128) (e : 
   found : find w g n ≡ cond (ltb i 128) (some (entry_at w i)) none
   unfolding find
   found = rw (m, e)
-
-  pub found_alive : ltb i 128 ≡ is_live (find w g n)
-  found_alive = alive_by (ltb i 128) (entry_at w i) ∙ sym (ap is_live found)
-
-  pub found_session : (place_at w.table i).session ≡ session_in (find w g n)
-  found_session = go (ltb i 128) refl ∙ sym (ap session_in found)
-    where
-      go : (b : Bool) → ltb i 128 ≡ b → (place_at w.table i).session ≡ session_in (cond b (some (entry_at w i)) none)
-      go true q = refl
-      go false q = rw (get_or-eq_default (slots_of w.table) free {n = i} (omega (arith, ltb-false i 128 q)))
 
 -- a live session is the one at the place of the search
 pub alive_found : (w : World) (g n : ℕ) → is_live (find w g n) ≡ true

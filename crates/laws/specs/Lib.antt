@@ -11,3 +11,4 @@ pub mod Found
 pub mod Loops
 pub mod Walk
 pub mod Bounds
+pub mod Tries

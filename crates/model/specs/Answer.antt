@@ -1,5 +1,7 @@
 -- Paper 01, "Answer numbers": the numbers, checks in order, and the outcome bytes. [2]
-use Rattle.std.specs.Prelude.{ℕ, ◌-◌, Bool, cond, ◌&&◌, not, List, [], ◌∷◌, ◌++◌, eqb, ltb, length, set}
+use Rattle.std.specs.Prelude.{ℕ, ◌-◌, Bool, cond, ◌&&◌, not, List, [], ◌∷◌, ◌++◌, eqb, ltb, length, set, Result, Ok, Err}
+use Rattle.model.specs.declared.Refusal.{Refusal}
+use Rattle.model.specs.declared.Refusal.TheVariants.{Error, NotSupported, InvalidSession, NoSpace, BadGuest, NoOutcome, BadStore, BadFeature, BadShares, BadConfig}
 use Rattle.model.specs.Bytes.{le}
 
 -- ---- the numbers [2.1]
@@ -46,6 +48,28 @@ bad_shares = 20
 -- configuration refused
 abbrev pub bad_config : ℕ
 bad_config = 21
+
+-- the number of each refusal
+abbrev pub number_of : Refusal → ℕ
+number_of Error = err
+number_of NotSupported = notsupp
+number_of InvalidSession = invsess
+number_of NoSpace = nospc
+number_of BadGuest = bad_guest
+number_of NoOutcome = no_outcome
+number_of BadStore = bad_store
+number_of BadFeature = bad_feature
+number_of BadShares = bad_shares
+number_of BadConfig = bad_config
+
+-- the answer in an outcome
+abbrev pub answer_in : {A : Type 0} → Result A Refusal → ℕ
+answer_in (Ok v) = ok
+answer_in (Err refusal) = number_of refusal
+
+-- one check: it holds, or it refuses
+abbrev pub checked : Bool → Refusal → Result (Unit {0}) Refusal
+checked holds refusal = cond holds (Ok tt) (Err refusal)
 
 -- 01's term "granted": answer 0 [1.2]
 abbrev pub granted : ℕ → Bool

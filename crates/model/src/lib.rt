@@ -1,32 +1,52 @@
-// The session table, by value, and the paper's numbers. What is right of them stands in specs/.
+// The session table and the paper's numbers, and the outcome of a check and of a call. What is right of them stands in specs/.
 #![tactic(auto)]
 
-// Paper 01's answers; those from BAD_GUEST on have no outcome bytes.
+ghost use Rattle.std.specs.Prelude.{◌≡◌};
+ghost use Rattle.model.specs.Answer.{checked, answer_in};
+ghost use Rattle.model.specs.Session.{session_of};
+
+// Of paper 01's answers those that are written or read as numbers; those from BAD_GUEST on have no outcome bytes.
 pub const OK: u8 = 0;
 
 pub const ERR: u8 = 1;
 
 pub const BADMSG: u8 = 2;
 
-pub const NOTSUPP: u8 = 3;
-
-pub const INVSESS: u8 = 4;
-
-pub const NOSPC: u8 = 5;
-
 pub const BAD_GUEST: u8 = 16;
 
-pub const NO_OUTCOME: u8 = 17;
+// Why a call is refused, each with its answer.
+#[derive(Clone, Copy, Debug, PartialEq, Eq)]
+pub enum Refusal {
+    Error = 1,
+    NotSupported = 3,
+    InvalidSession = 4,
+    NoSpace = 5,
+    BadGuest = 16,
+    NoOutcome = 17,
+    BadStore = 18,
+    BadFeature = 19,
+    BadShares = 20,
+    BadConfig = 21,
+}
 
-pub const BAD_STORE: u8 = 18;
+// A check that holds lets the call go on; one that does not refuses it.
+pub fn check(holds: bool, refusal: Refusal) -> Result<(), Refusal>
+    ensures { result ≡ checked holds refusal }
+{
+    if holds { Ok(()) } else { Err(refusal) }
+}
 
-pub const BAD_FEATURE: u8 = 19;
+// The number that a call answers: 0 where it is granted.
+pub fn answer<T: Copy>(outcome: Result<T, Refusal>) -> u8
+    ensures { result ≡ answer_in outcome }
+{
+    match outcome {
+        Ok(_) => OK,
+        Err(refusal) => refusal as u8,
+    }
+}
 
-pub const BAD_SHARES: u8 = 20;
-
-pub const BAD_CONFIG: u8 = 21;
-
-// The services.
+// The services. They, directions and algorithms are numbers in the code too: the definitions judge any number, which a slot or a request may hold.
 pub const CIPHER: u32 = 0;
 
 pub const HASH: u32 = 1;
@@ -35,13 +55,13 @@ pub const MAC: u32 = 2;
 
 pub const AEAD: u32 = 3;
 
+// What a control request's opcode is beside service · 256 where it creates a session.
+pub const CREATE: u32 = 2;
+
 // The directions of a cipher or AEAD.
 pub const ENCRYPT: u32 = 1;
 
 pub const DECRYPT: u32 = 2;
-
-// The last session number of a guest.
-pub const LAST_NUMBER: u64 = 18446744073709551615;
 
 // The bytes of the key store.
 pub const STORE_SIZE: usize = 16384;
@@ -122,6 +142,22 @@ pub struct Slot {
     pub direction: u8,
     pub keylen: u8,
     pub result: u8,
+}
+
+// The session in a slot, held or not.
+impl From<Slot> for Session {
+    ghost from_gives = { λ slot session. session ≡ session_of slot };
+
+    fn from(slot: Slot) -> Session {
+        Session {
+            service: u32::from(slot.service),
+            algo: u32::from(slot.algo),
+            direction: u32::from(slot.direction),
+            keylen: u32::from(slot.keylen),
+            result: u32::from(slot.result),
+            aad: slot.aad,
+        }
+    }
 }
 
 // `reserve` and `cap` are the guest's shares, `last` the last session number given since its last attach.

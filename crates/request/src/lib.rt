@@ -1,21 +1,32 @@
-// The checks of the calls in paper 01's order. Each stage takes numbers and answers with the number of the first check that fails, 0 where all
-// hold.
+// The checks of the calls in paper 01's order. Each stage takes what its list of checks in the crate model takes, lengths and fields and no bytes,
+// and tries that list in its order and words: the first check that fails refuses the call.
 #![tactic(auto)]
 
-ghost use Rattle.std.specs.Prelude.{◌≡◌, cond, ◌&&◌, ◌++◌, ◌+◌, ◌≤◌, eqb, leb};
+ghost use Rattle.std.specs.Prelude.{◌≡◌, true, false, [], ◌∷◌, cond, ◌&&◌, ◌++◌, ◌+◌, ◌≤◌, eqb, leb, is_some, unwrap_or};
 ghost use Rattle.model.specs.Bytes.{part};
-ghost use Rattle.model.specs.Answer.{first_fail};
+ghost use Rattle.model.specs.Answer.{first_fail, answer_in};
+ghost use Rattle.model.specs.Session.{no_session};
 ghost use Rattle.model.specs.Setup.{config_ok, config_of, set_up_order, attach_checks};
+ghost use Rattle.model.specs.Lens.{or_in};
 ghost use Rattle.model.specs.Control.{asked, plain_create, service_of, creating, opcode_ok, create_part, place_checks, head_checks, session_checks, end_checks};
 ghost use Rattle.model.specs.Data.{lengths, part_of, operation_ok, data_part, start_of, fits, suits, operation_checks, job_checks, key_checks, finish_checks, status};
+
+use model::{
+    AEAD, BADMSG, CIPHER, CREATE, Config, ERR, Field, HASH, Lengths, MAC, OK, Refusal, STORE_SIZE,
+    Session, Span, check,
+};
+
+// The opcode of an AEAD decryption, whose verdict alone can be a wrong tag.
+const AEAD_DECRYPT: u32 = 769;
 
 // ---- fields, as document 001 lays them out
 
 // The configuration's thirteen fields.
-pub fn config_of(b: &[u8]) -> model::Config
+#[tactic(auto, unfolding(model::specs::Setup::config_of))]
+pub fn config_of(b: &[u8]) -> Config
     ensures { result ≡ config_of b.now }
 {
-    model::Config {
+    Config {
         status: wire::le32(b, 0),
         queues: wire::le32(b, 4),
         services: wire::le32(b, 8),
@@ -32,100 +43,95 @@ pub fn config_of(b: &[u8]) -> model::Config
     }
 }
 
-// A session of these fields.
-fn session(
-    service: u32,
-    algo: u32,
-    direction: u32,
-    keylen: u32,
-    res: u32,
-    aad: u32,
-) -> model::Session
-    ensures { result ≡ record { service = service; algo = algo; direction = direction; keylen = keylen; result = res; aad = aad } }
-{
-    model::Session {
-        service,
-        algo,
-        direction,
-        keylen,
-        result: res,
-        aad,
-    }
-}
-
 // The session that a create's fixed part asks for, by its service.
-pub fn asked(r: &[u8]) -> model::Session
+#[tactic(auto, using(crate::specs::Fields::asked_cipher, crate::specs::Fields::asked_hash, crate::specs::Fields::asked_mac, crate::specs::Fields::asked_aead))]
+pub fn asked(r: &[u8]) -> Session
     ensures { result ≡ asked r.now }
 {
     let service = wire::le32(r, 0) / 256;
-    let algo = wire::le32(r, 16);
     let second = wire::le32(r, 20);
     let third = wire::le32(r, 24);
-    if service == model::CIPHER {
-        return session(model::CIPHER, algo, third, second, 0, 0);
+    let none = Session {
+        service,
+        algo: wire::le32(r, 16),
+        direction: 0,
+        keylen: 0,
+        result: 0,
+        aad: 0,
+    };
+    match service {
+        CIPHER => Session {
+            direction: third,
+            keylen: second,
+            ..none
+        },
+        HASH => Session {
+            result: second,
+            ..none
+        },
+        MAC => Session {
+            keylen: third,
+            result: second,
+            ..none
+        },
+        _ => Session {
+            service: AEAD,
+            direction: wire::le32(r, 32),
+            keylen: second,
+            result: third,
+            aad: wire::le32(r, 28),
+            ..none
+        },
     }
-    if service == model::HASH {
-        return session(model::HASH, algo, 0, 0, second, 0);
-    }
-    if service == model::MAC {
-        return session(model::MAC, algo, 0, third, second, 0);
-    }
-    session(
-        model::AEAD,
-        algo,
-        wire::le32(r, 32),
-        second,
-        third,
-        wire::le32(r, 28),
-    )
 }
 
 // A cipher's op_type is 1. It stands 64 bytes from the start of a create and of a data request.
 pub fn is_plain(r: &[u8]) -> bool
     ensures { result ≡ plain_create r.now }
 {
-    !(wire::le32(r, 0) / 256 == model::CIPHER) | (wire::le32(r, 64) == 1)
+    match wire::le32(r, 0) / 256 {
+        CIPHER => wire::le32(r, 64) == 1,
+        _ => true,
+    }
 }
 
 // The lengths of a data request's fixed part, by its service.
-pub fn lengths(r: &[u8]) -> model::Lengths
+#[tactic(auto, using(crate::specs::Fields::lengths_cipher, crate::specs::Fields::lengths_aead, crate::specs::Fields::lengths_digest))]
+pub fn lengths(r: &[u8]) -> Lengths
     ensures { result ≡ lengths r.now }
 {
     let service = wire::le32(r, 0) / 256;
     let first = wire::le32(r, 24);
     let second = wire::le32(r, 28);
     let third = wire::le32(r, 32);
-    if service == model::CIPHER {
-        return model::Lengths {
+    match service {
+        CIPHER => Lengths {
             iv: first,
             source: second,
             aad: 0,
             written: third,
             result: 0,
-        };
-    }
-    if service == model::AEAD {
-        let written = wire::le32(r, 36);
-        let result = wire::le32(r, 40);
-        return model::Lengths {
+        },
+        AEAD => Lengths {
             iv: first,
             source: third,
             aad: second,
-            written,
-            result,
-        };
-    }
-    model::Lengths {
-        iv: 0,
-        source: first,
-        aad: 0,
-        written: second,
-        result: second,
+            written: wire::le32(r, 36),
+            result: wire::le32(r, 40),
+        },
+        _ => Lengths {
+            iv: 0,
+            source: first,
+            aad: 0,
+            written: second,
+            result: second,
+        },
     }
 }
 
 // Where a variable part of a data request stands, whether or not there are as many bytes.
-pub fn place(r: &[u8], field: model::Field) -> model::Span
+#[tactic(auto, using(crate::specs::Parts::place_iv, crate::specs::Parts::place_source, crate::specs::Parts::place_aad))]
+pub fn place(r: &[u8], field: Field) -> Span
     ensures { part r.now result.start result.size ≡ part_of field r.now }
 {
     let n = lengths(r);
@@ -133,15 +139,15 @@ pub fn place(r: &[u8], field: model::Field) -> model::Span
     let source = iv + n.iv as usize;
     let aad = source + n.source as usize;
     match field {
-        model::Field::Iv => model::Span {
+        Field::Iv => Span {
             start: iv,
             size: n.iv as usize,
         },
-        model::Field::Source => model::Span {
+        Field::Source => Span {
             start: source,
             size: n.source as usize,
         },
-        model::Field::Aad => model::Span {
+        Field::Aad => Span {
             start: aad,
             size: n.aad as usize,
         },
@@ -149,7 +155,7 @@ pub fn place(r: &[u8], field: model::Field) -> model::Span
 }
 
 // A variable part of a data request.
-pub fn part<'a>(r: &'a [u8], field: model::Field) -> &'a [u8]
+pub fn part(r: &[u8], field: Field) -> &[u8]
     ensures { result.now ≡ part_of field r.now }
 {
     let p = place(r, field);
@@ -159,89 +165,72 @@ pub fn part<'a>(r: &'a [u8], field: model::Field) -> &'a [u8]
 // ---- checks
 
 // A configuration k of len bytes that set-up takes.
-fn takes(len: usize, k: model::Config) -> bool
+fn takes(len: usize, k: Config) -> bool
     ensures { result ≡ (eqb len 56 && config_ok k) }
 {
-    (len == 56) & rules::config_ok(k)
+    len == 56 && rules::config_ok(k)
 }
 
 // Set-up: the key store's length, the configuration, the shares.
+#[tactic(auto, unfolding(model::specs::Answer::first_fail))]
 pub fn set_up_answer(
     store: usize,
     len: usize,
-    k: model::Config,
+    k: Config,
     reserves: [u8; 8],
     caps: [u8; 8],
-) -> u8
-    ensures { result ≡ first_fail (set_up_order store len k reserves caps) }
+) -> Result<(), Refusal>
+    ensures { answer_in result ≡ first_fail (set_up_order store len k reserves caps) }
 {
-    if store != model::STORE_SIZE {
-        return model::BAD_STORE;
-    }
-    if !takes(len, k) {
-        return model::BAD_CONFIG;
-    }
-    if !rules::shares_ok(reserves, caps) {
-        return model::BAD_SHARES;
-    }
-    model::OK
+    check(store == STORE_SIZE, Refusal::BadStore)?;
+    check(takes(len, k), Refusal::BadConfig)?;
+    check(rules::shares_ok(reserves, caps), Refusal::BadShares)
 }
 
 // Attach: the key store's length, the guest, the feature word.
-pub fn attach_answer(store: usize, guest: u8, word: u32) -> u8
-    ensures { result ≡ first_fail (attach_checks store guest word) }
+#[tactic(auto, unfolding(model::specs::Answer::first_fail))]
+pub fn attach_answer(store: usize, guest: u8, word: u32) -> Result<(), Refusal>
+    ensures { answer_in result ≡ first_fail (attach_checks store guest word) }
 {
-    if store != model::STORE_SIZE {
-        return model::BAD_STORE;
-    }
-    if 8 <= guest {
-        return model::BAD_GUEST;
-    }
-    if word != 1 {
-        return model::BAD_FEATURE;
-    }
-    model::OK
+    check(store == STORE_SIZE, Refusal::BadStore)?;
+    check(guest < 8, Refusal::BadGuest)?;
+    check(word == 1, Refusal::BadFeature)
 }
 
 // Step 1 of a control request.
-fn place_answer(store: usize, here: bool, room: usize) -> u8
-    ensures { result ≡ first_fail (place_checks store here room) }
+#[tactic(auto, unfolding(model::specs::Answer::first_fail))]
+fn place_answer(store: usize, here: bool, room: usize) -> Result<(), Refusal>
+    ensures { answer_in result ≡ first_fail (place_checks store here room) }
 {
-    if store != model::STORE_SIZE {
-        return model::BAD_STORE;
-    }
-    if !here {
-        return model::BAD_GUEST;
-    }
-    if !((room == 16) | (room == 1)) {
-        return model::NO_OUTCOME;
-    }
-    model::OK
+    check(store == STORE_SIZE, Refusal::BadStore)?;
+    check(here, Refusal::BadGuest)?;
+    check((room == 16) | (room == 1), Refusal::NoOutcome)
+}
+
+// A create or a destroy of one of the four services.
+fn is_control(op: u32) -> bool
+    ensures { result ≡ or_in false op (2 ∷ 3 ∷ 258 ∷ 259 ∷ 514 ∷ 515 ∷ 770 ∷ 771 ∷ []) }
+{
+    matches!(op, 2 | 3 | 258 | 259 | 514 | 515 | 770 | 771)
 }
 
 // A known opcode of a service that is offered.
-fn opcode_ok(k: model::Config, op: u32) -> bool
+#[tactic(auto, unfolding(model::specs::Control::opcode_ok))]
+fn opcode_ok(k: Config, op: u32) -> bool
     ensures { result ≡ opcode_ok k op }
 {
-    let known = (op == 2)
-        | (op == 3)
-        | (op == 258)
-        | (op == 259)
-        | (op == 514)
-        | (op == 515)
-        | (op == 770)
-        | (op == 771);
-    known & rules::has_bit(k.services, op / 256)
+    is_control(op) && rules::has_bit(k.services, op / 256)
 }
 
 // The writable bytes are those of a create or of a destroy.
 fn room_ok(op: u32, room: usize) -> bool
     ensures { result ≡ eqb room (cond (creating op) 16 1) }
 {
-    if op % 256 == 2 {
-        return room == 16;
+    if op % 256 == CREATE {
+        room == 16
+    } else {
+        room == 1
     }
-    room == 1
 }
 
 // A create's fixed part.
@@ -249,158 +238,138 @@ pub fn create_part(service: u32) -> usize
     ensures value { result ≡ create_part service }
     ensures bounded { result ≤ 56 }
 {
-    if service == model::CIPHER {
-        return 56;
+    match service {
+        CIPHER => 56,
+        HASH => 8,
+        MAC => 16,
+        _ => 24,
     }
-    if service == model::HASH {
-        return 8;
-    }
-    if service == model::MAC {
-        return 16;
-    }
-    24
 }
 
 // There are as many readable bytes as header and fixed part of a create or a destroy.
 fn holds_part(op: u32, len: usize) -> bool
     ensures { result ≡ leb (16 + cond (creating op) (create_part (service_of op)) 8) len }
 {
-    if op % 256 == 2 {
-        return 16 + create_part(op / 256) <= len;
+    if op % 256 == CREATE {
+        16 + create_part(op / 256) <= len
+    } else {
+        24 <= len
     }
-    24 <= len
 }
 
 // Steps 2 and 3.
-fn head_answer(k: model::Config, op: u32, len: usize, room: usize) -> u8
-    ensures { result ≡ first_fail (head_checks k op len room) }
+#[tactic(auto, unfolding(model::specs::Answer::first_fail))]
+fn head_answer(k: Config, op: u32, len: usize, room: usize) -> Result<(), Refusal>
+    ensures { answer_in result ≡ first_fail (head_checks k op len room) }
 {
-    if len < 16 {
-        return model::ERR;
-    }
-    if !opcode_ok(k, op) {
-        return model::NOTSUPP;
-    }
-    if !room_ok(op, room) {
-        return model::ERR;
-    }
-    if !holds_part(op, len) {
-        return model::ERR;
-    }
-    model::OK
+    check(16 <= len, Refusal::Error)?;
+    check(opcode_ok(k, op), Refusal::NotSupported)?;
+    check(room_ok(op, room), Refusal::Error)?;
+    check(holds_part(op, len), Refusal::Error)
 }
 
 // Steps 1 to 3.
+#[tactic(auto, unfolding(model::specs::Answer::first_fail))]
 pub fn control_answer(
-    k: model::Config,
+    k: Config,
     store: usize,
     here: bool,
     op: u32,
     len: usize,
     room: usize,
-) -> u8
-    ensures { result ≡ first_fail (place_checks store here room ++ head_checks k op len room) }
+) -> Result<(), Refusal>
+    ensures { answer_in result ≡ first_fail (place_checks store here room ++ head_checks k op len room) }
 {
-    let answer = place_answer(store, here, room);
-    if answer != model::OK {
-        return answer;
-    }
+    place_answer(store, here, room)?;
     head_answer(k, op, len, room)
 }
 
 // The readable bytes are header, fixed part and key.
-fn is_whole(x: model::Session, len: usize) -> bool
+fn is_whole(x: Session, len: usize) -> bool
     ensures { result ≡ eqb len (16 + create_part x.service + x.keylen) }
 {
     len == 16 + create_part(x.service) + x.keylen as usize
 }
 
 // Step 4 up to the session number: of the session x that a create asks for.
-pub fn session_answer(k: model::Config, plain: bool, head: u32, x: model::Session, len: usize) -> u8
-    ensures { result ≡ first_fail (session_checks k plain head x len) }
+#[tactic(auto, unfolding(model::specs::Answer::first_fail))]
+pub fn session_answer(
+    k: Config,
+    plain: bool,
+    head: u32,
+    x: Session,
+    len: usize,
+) -> Result<(), Refusal>
+    ensures { answer_in result ≡ first_fail (session_checks k plain head x len) }
 {
-    if !plain {
-        return model::NOTSUPP;
-    }
-    if !rules::is_offered(k, x.service, x.algo) {
-        return model::NOTSUPP;
-    }
-    if head != x.algo {
-        return model::ERR;
-    }
-    if !rules::direction_ok(x) {
-        return model::ERR;
-    }
-    if !rules::lengths_ok(k, x) {
-        return model::ERR;
-    }
-    if !is_whole(x, len) {
-        return model::ERR;
-    }
-    model::OK
+    check(plain, Refusal::NotSupported)?;
+    check(
+        rules::is_offered(k, x.service, x.algo),
+        Refusal::NotSupported,
+    )?;
+    check(head == x.algo, Refusal::Error)?;
+    check(rules::direction_ok(x), Refusal::Error)?;
+    check(rules::lengths_ok(k, x), Refusal::Error)?;
+    check(is_whole(x, len), Refusal::Error)
 }
 
 // Step 5, of a destroy: x is the session that it names, if that is live.
-pub fn destroy_answer(alive: bool, x: model::Session, op: u32, len: usize) -> u8
-    ensures { result ≡ first_fail (end_checks alive x op len) }
+#[tactic(auto, unfolding(model::specs::Answer::first_fail))]
+pub fn destroy_answer(x: Option<Session>, op: u32, len: usize) -> Result<(), Refusal>
+    ensures { answer_in result ≡ first_fail (end_checks (is_some x) (unwrap_or x no_session) op len) }
 {
-    if len != 24 {
-        return model::ERR;
+    check(len == 24, Refusal::Error)?;
+    match x {
+        Some(x) => check(x.service == op / 256, Refusal::Error),
+        None => Err(Refusal::Error),
     }
-    if !(alive & (x.service == op / 256)) {
-        return model::ERR;
-    }
-    model::OK
+}
+
+// An operation of one of the four services.
+fn is_operation(op: u32) -> bool
+    ensures { result ≡ or_in false op (0 ∷ 1 ∷ 256 ∷ 512 ∷ 768 ∷ 769 ∷ []) }
+{
+    matches!(op, 0 | 1 | 256 | 512 | 768 | 769)
 }
 
 // A known operation of a service that is offered.
-fn operation_ok(k: model::Config, op: u32) -> bool
+#[tactic(auto, unfolding(model::specs::Data::operation_ok))]
+fn operation_ok(k: Config, op: u32) -> bool
     ensures { result ≡ operation_ok k op }
 {
-    let known = (op == 0) | (op == 1) | (op == 256) | (op == 512) | (op == 768) | (op == 769);
-    known & rules::has_bit(k.services, op / 256)
+    is_operation(op) && rules::has_bit(k.services, op / 256)
 }
 
 // Data requests: the checks that need no session.
+#[tactic(auto, unfolding(model::specs::Answer::first_fail))]
 pub fn operation_answer(
-    k: model::Config,
+    k: Config,
     here: bool,
     op: u32,
     flag: u32,
     len: usize,
     room: usize,
-) -> u8
-    ensures { result ≡ first_fail (operation_checks k here op flag len room) }
+) -> Result<(), Refusal>
+    ensures { answer_in result ≡ first_fail (operation_checks k here op flag len room) }
 {
-    if !here {
-        return model::BAD_GUEST;
-    }
-    if room < 1 {
-        return model::NO_OUTCOME;
-    }
-    if len < 24 {
-        return model::ERR;
-    }
-    if !operation_ok(k, op) {
-        return model::NOTSUPP;
-    }
-    if flag == 0 {
-        return model::NOTSUPP;
-    }
-    if flag != 1 {
-        return model::ERR;
-    }
-    model::OK
+    check(here, Refusal::BadGuest)?;
+    check(1 <= room, Refusal::NoOutcome)?;
+    check(24 <= len, Refusal::Error)?;
+    check(operation_ok(k, op), Refusal::NotSupported)?;
+    check(flag != 0, Refusal::NotSupported)?;
+    check(flag == 1, Refusal::Error)
 }
 
-// The session is live, of the operation's service and, for cipher and AEAD, of its direction.
-fn suits_job(op: u32, alive: bool, x: model::Session) -> bool
-    ensures { result ≡ suits op alive x }
+// The live session is of the operation's service and, for cipher and AEAD, of its direction.
+fn suits_job(op: u32, x: Session) -> bool
+    ensures { result ≡ suits op true x }
 {
     let service = op / 256;
-    alive
-        & (x.service == service)
-        & (!((service == model::CIPHER) | (service == model::AEAD)) | (x.direction == op % 256 + 1))
+    x.service == service
+        && match service {
+            CIPHER | AEAD => x.direction == op % 256 + 1,
+            _ => true,
+        }
 }
 
 // A data request's fixed part.
@@ -408,13 +377,11 @@ fn data_part(service: u32) -> usize
     ensures value { result ≡ data_part service }
     ensures bounded { result ≤ 48 }
 {
-    if service == model::CIPHER {
-        return 48;
+    match service {
+        CIPHER => 48,
+        HASH | MAC => 8,
+        _ => 24,
     }
-    if (service == model::HASH) | (service == model::MAC) {
-        return 8;
-    }
-    24
 }
 
 // Where the variable parts start.
@@ -433,101 +400,87 @@ fn reaches(op: u32, len: usize) -> bool
 }
 
 // All variable lengths together; a sum of four, so 64 bits.
-fn sum_ok(size: u64, n: model::Lengths) -> bool
+fn sum_ok(size: u64, n: Lengths) -> bool
     ensures { result ≡ leb (n.iv + n.source + n.aad + n.written) size }
 {
-    n.iv as u64 + n.source as u64 + n.aad as u64 + n.written as u64 <= size
+    u64::from(n.iv) + u64::from(n.source) + u64::from(n.aad) + u64::from(n.written) <= size
 }
 
 // Readable and writable bytes are just those that the lengths name.
-fn is_exact(op: u32, n: model::Lengths, len: usize, room: usize) -> bool
+fn is_exact(op: u32, n: Lengths, len: usize, room: usize) -> bool
     ensures { result ≡ (eqb len (start_of op + n.iv + n.source + n.aad) && eqb room (n.written + 1)) }
 {
     let end = start_of(op) + n.iv as usize + n.source as usize + n.aad as usize;
-    (len == end) & (room == n.written as usize + 1)
+    len == end && room == n.written as usize + 1
 }
 
 // The lengths against the rules and the session.
-fn fits_session(x: model::Session, n: model::Lengths) -> bool
+#[tactic(auto, unfolding(model::specs::Data::fits))]
+fn fits_session(x: Session, n: Lengths) -> bool
     ensures { result ≡ fits x n }
 {
     rules::iv_ok(x.service, x.algo, n.iv)
-        & rules::source_ok(x.service, x.algo, n.source)
-        & rules::written_ok(x.service, x.direction, n)
-        & rules::payload_ok(x.service, x.algo, x.direction, n)
-        & (!(x.service == model::AEAD) | (n.aad == x.aad))
-        & ((x.service == model::CIPHER) | (n.result == x.result))
+        && rules::source_ok(x.service, x.algo, n.source)
+        && rules::written_ok(x.service, x.direction, n)
+        && rules::payload_ok(x.service, x.algo, x.direction, n)
+        && match x.service {
+            CIPHER => true,
+            AEAD => n.aad == x.aad && n.result == x.result,
+            _ => n.result == x.result,
+        }
 }
 
 // Data requests: the checks on the session x that is named, if that is live, and on the lengths.
+#[tactic(auto, unfolding(model::specs::Answer::first_fail))]
 pub fn job_answer(
-    k: model::Config,
-    alive: bool,
-    x: model::Session,
+    k: Config,
+    x: Option<Session>,
     op: u32,
     plain: bool,
-    n: model::Lengths,
+    n: Lengths,
     len: usize,
     room: usize,
-) -> u8
-    ensures { result ≡ first_fail (job_checks k alive x op plain n len room) }
+) -> Result<(), Refusal>
+    ensures { answer_in result ≡ first_fail (job_checks k (is_some x) (unwrap_or x no_session) op plain n len room) }
 {
-    if !suits_job(op, alive, x) {
-        return model::INVSESS;
-    }
-    if !reaches(op, len) {
-        return model::ERR;
-    }
-    if !plain {
-        return model::NOTSUPP;
-    }
-    if !sum_ok(k.size, n) {
-        return model::ERR;
-    }
-    if !is_exact(op, n, len, room) {
-        return model::ERR;
-    }
-    if !fits_session(x, n) {
-        return model::ERR;
-    }
-    model::OK
+    let Some(x) = x else {
+        return Err(Refusal::InvalidSession);
+    };
+    check(suits_job(op, x), Refusal::InvalidSession)?;
+    check(reaches(op, len), Refusal::Error)?;
+    check(plain, Refusal::NotSupported)?;
+    check(sum_ok(k.size, n), Refusal::Error)?;
+    check(is_exact(op, n, len, room), Refusal::Error)?;
+    check(fits_session(x, n), Refusal::Error)
 }
 
 // Key fetch.
-pub fn key_answer(store: usize, here: bool, alive: bool) -> u8
-    ensures { result ≡ first_fail (key_checks store here alive) }
+#[tactic(auto, unfolding(model::specs::Answer::first_fail))]
+pub fn key_answer(store: usize, here: bool, alive: bool) -> Result<(), Refusal>
+    ensures { answer_in result ≡ first_fail (key_checks store here alive) }
 {
-    if store != model::STORE_SIZE {
-        return model::BAD_STORE;
-    }
-    if !here {
-        return model::BAD_GUEST;
-    }
-    if !alive {
-        return model::INVSESS;
-    }
-    model::OK
+    check(store == STORE_SIZE, Refusal::BadStore)?;
+    check(here, Refusal::BadGuest)?;
+    check(alive, Refusal::InvalidSession)
 }
 
 // Finish.
-pub fn finish_answer(here: bool, room: usize) -> u8
-    ensures { result ≡ first_fail (finish_checks here room) }
+#[tactic(auto, unfolding(model::specs::Answer::first_fail))]
+pub fn finish_answer(here: bool, room: usize) -> Result<(), Refusal>
+    ensures { answer_in result ≡ first_fail (finish_checks here room) }
 {
-    if !here {
-        return model::BAD_GUEST;
-    }
-    if room < 1 {
-        return model::NO_OUTCOME;
-    }
-    model::OK
+    check(here, Refusal::BadGuest)?;
+    check(1 <= room, Refusal::NoOutcome)
 }
 
 // The byte that finish writes: the verdict, where it can stand.
+#[tactic(auto, unfolding(model::specs::Data::status))]
 pub fn status_of(opcode: u32, verdict: u8) -> u8
     ensures { result ≡ status opcode verdict }
 {
-    if (verdict <= model::ERR) | (verdict == model::BADMSG) & (opcode == 769) {
-        return verdict;
+    match verdict {
+        OK | ERR => verdict,
+        BADMSG if opcode == AEAD_DECRYPT => verdict,
+        _ => ERR,
     }
-    model::ERR
 }

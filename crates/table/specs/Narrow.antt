@@ -1,5 +1,5 @@
 -- A session as a slot keeps it, and a guest's record after a grant.
-use Rattle.std.specs.Prelude.{ℕ, suc, ◌-◌, ◌%◌, cond, List, leb, get_or}
+use Rattle.std.specs.Prelude.{ℕ, suc, ◌-◌, ◌%◌, cond, List, leb, get_or, Option, None, Some}
 use Rattle.model.specs.declared.Guest.{Guest}
 use Rattle.model.specs.declared.Session.{Session}
 use Rattle.model.specs.Session.{last_number, new_guest}
@@ -22,6 +22,10 @@ lastly r n = record { attached = r.attached; reserve = r.reserve; cap = r.cap; l
 -- the next number, 0 where none is left
 unfoldable pub number_after : ℕ → ℕ
 number_after n = cond (leb last_number n) 0 (suc n)
+
+-- the next number, if one is left
+unfoldable pub next_number : ℕ → Option ℕ
+next_number n = cond (leb last_number n) None (Some (suc n))
 
 -- what guest g lacks of its reserve, by the guests' records and how many slots each holds
 abbrev pub lacks : List Guest → List ℕ → ℕ → ℕ

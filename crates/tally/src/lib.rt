@@ -2,7 +2,7 @@
 #![tactic(auto)]
 
 ghost use Rattle.std.specs.Prelude.{◌≡◌};
-ghost use Rattle.tally.specs.Count.{increment, after_answer, none};
+ghost use Rattle.tally.specs.Count.{after_answer, none};
 
 #[derive(Clone, Copy)]
 pub struct Tally {
@@ -20,28 +20,17 @@ pub fn empty() -> Tally
     }
 }
 
-// One more; the largest number stays.
-fn incremented(n: u32) -> u32
-    ensures { result ≡ increment n }
-{
-    if n < 4294967295 { n + 1 } else { n }
-}
-
-// The tally after one more answer.
+// The tally after one more answer; the largest number stays.
 fn counted(t: Tally, answer: u8) -> Tally
     ensures { result ≡ after_answer t answer }
 {
-    let records = incremented(t.records);
-    if answer == 0 {
-        return Tally {
-            records,
-            granted: incremented(t.granted),
-        };
-    }
-    Tally {
-        records,
-        granted: t.granted,
-    }
+    let records = t.records.saturating_add(1);
+    let granted = if answer == model::OK {
+        t.granted.saturating_add(1)
+    } else {
+        t.granted
+    };
+    Tally { records, granted }
 }
 
 // Counts one more answer, in place.
@@ -51,7 +40,7 @@ pub fn count(t: &mut Tally, answer: u8)
     *t = counted(*t, answer);
 }
 
-// The same for a caller that has the tally by value: lends a copy to `count` and hands it back.
+// The same by value: lends a copy to `count` and hands it back.
 pub fn count_copy(t: Tally, answer: u8) -> Tally
     ensures { result ≡ after_answer t answer }
 {

@@ -1,42 +1,32 @@
-// The lines that replay prints, made as bytes. What does not fit is left out.
+// The lines that replay prints, made as bytes in a slice that is lent, so that nothing is allocated and no call can fail. What does not fit is
+// left out.
 #![tactic(auto)]
 
-ghost use Rattle.std.specs.Prelude.{◌≤◌, ◌≡◌, [], ◌∷◌, length, take};
+ghost use Rattle.std.specs.Prelude.{◌≤◌, ◌≡◌, length, take};
 ghost use Rattle.text.specs.Lines.{decimal, line, lines_from, text, Puts};
 
-// One byte at `at`; the result of this and of the others is where the next byte goes.
-fn put(out: &mut [u8], at: usize, b: u8) -> usize
-    ensures { Puts out.old at (b ∷ []) out.new result }
-{
-    if at < out.len() {
-        out[at] = b;
-        return at + 1;
-    }
-    at
-}
-
-// The bytes of s.
+// The bytes of s from `at` on; the result of this and of the others is where the next byte goes.
 pub fn put_bytes(out: &mut [u8], at: usize, s: &[u8]) -> usize
     ensures { Puts out.old at s.now out.new result }
 {
-    let mut end = at;
-    let mut i: usize = 0;
-    while i < s.len() {
-        end = put(out, end, s[i]);
-        i += 1;
+    if out.len() <= at {
+        return at;
     }
-    end
+    let n = s.len().min(out.len() - at);
+    out[at..at + n].copy_from_slice(&s[..n]);
+    at + n
 }
 
 // A number in decimal.
+#[tactic(auto, using(crate::specs::Laws::decimal_one))]
 fn put_decimal(out: &mut [u8], at: usize, n: u64) -> usize
     ensures { Puts out.old at (decimal n) out.new result }
 {
     if n < 10 {
-        return put(out, at, 48 + n as u8);
+        return put_bytes(out, at, &[b'0' + n as u8]);
     }
     let last = put_decimal(out, at, n / 10);
-    put(out, last, 48 + (n % 10) as u8)
+    put_bytes(out, last, &[b'0' + (n % 10) as u8])
 }
 
 // Two numbers on a line.
@@ -44,20 +34,19 @@ fn put_line(out: &mut [u8], at: usize, a: u64, b: u64) -> usize
     ensures { Puts out.old at (line a b) out.new result }
 {
     let space = put_decimal(out, at, a);
-    let second = put(out, space, b' ');
+    let second = put_bytes(out, space, b" ");
     let end = put_decimal(out, second, b);
-    put(out, end, b'\n')
+    put_bytes(out, end, b"\n")
 }
 
 // A line for each answer: its index and itself.
+#[tactic(auto, unfolding(crate::specs::Lines::lines_from))]
 fn put_lines(out: &mut [u8], answers: &[u8]) -> usize
     ensures { Puts out.old 0 (lines_from 0 answers.now) out.new result }
 {
-    let mut at: usize = 0;
-    let mut index: usize = 0;
-    while index < answers.len() {
-        at = put_line(out, at, index as u64, answers[index] as u64);
-        index += 1;
+    let mut at = 0;
+    for (index, answer) in answers.iter().enumerate() {
+        at = put_line(out, at, index as u64, u64::from(*answer));
     }
     at
 }
@@ -69,5 +58,5 @@ pub fn put_text(answers: &[u8], granted: u32, out: &mut [u8]) -> usize
 {
     let last = put_lines(out, answers);
     let counts = put_bytes(out, last, b"done ");
-    put_line(out, counts, answers.len() as u64, granted as u64)
+    put_line(out, counts, answers.len() as u64, u64::from(granted))
 }

@@ -1,5 +1,5 @@
 -- Paper 01, "Replay": what a good trace is, the calls that it asks for, and their answers. [13]
-use Rattle.std.specs.Prelude.{ℕ, zero, suc, ◌+◌, ◌*◌, ◌-◌, Bool, cond, not, ◌&&◌, ◌||◌, List, [], ◌∷◌, ◌++◌, leb, eqb, length, take, replicate}
+use Rattle.std.specs.Prelude.{ℕ, zero, suc, ◌+◌, ◌*◌, ◌-◌, Bool, cond, not, ◌&&◌, ◌||◌, List, [], ◌∷◌, ◌++◌, leb, eqb, length, take, replicate, Option, None, Some}
 use Rattle.model.specs.Bytes.{byte, le32, le, part}
 use Rattle.model.specs.Algorithm.{cipher, hash, mac, aead, ciphers, hashes, macs, aeads}
 use Rattle.model.specs.Session.{store_size, World}
@@ -8,8 +8,6 @@ use Rattle.model.specs.Device.{Request, Attach, Control, Admit, reply, next}
 use Rattle.model.specs.Calls.{Call}
 use Rattle.trace.specs.declared.Record.{Record}
 use Rattle.trace.specs.declared.Records.{Records}
-use Rattle.trace.specs.declared.Opened.{Opened}
-use Rattle.trace.specs.declared.Opened.TheVariants.{Good, Bad}
 
 -- ---- the trace
 
@@ -50,8 +48,8 @@ good_trace s =
     && leb (le32 s (trailer s)) (trailer s)
     && walks s (trailer s) (records_of s).first (records_of s).count
 
-unfoldable pub opened : List ℕ → Opened
-opened s = cond (good_trace s) (Good (records_of s)) Bad
+unfoldable pub opened : List ℕ → Option Records
+opened s = cond (good_trace s) (Some (records_of s)) None
 
 -- ---- its calls
 

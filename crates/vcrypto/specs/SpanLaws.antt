@@ -1,16 +1,20 @@
 -- The spans that the code gives are those of the bytes handed on.
 -- Assumes nothing.
-use Rattle.std.specs.Prelude.{ℕ, suc, ◌≡◌, refl, Bool, true, false, cond, List, [], ◌∷◌, ltb, length}
-use Rattle.std.proofs.Common.{sym, ap, ◌∙◌, arith, ne_eqb}
+use Rattle.std.specs.Prelude.{ℕ, suc, ◌<◌, ◌≡◌, refl, Bool, true, false, cond, List, [], ◌∷◌, ltb, length}
+use Rattle.std.proofs.Common.{sym, ap, ◌∙◌, arith, ne_eqb, lt-ltb}
+use Rattle.std.proofs.Math.Option.{Option, none, some}
+use Rattle.lists.specs.Test.{false_true}
 use Rattle.model.specs.declared.Field.{Field}
 use Rattle.model.specs.declared.Session.{Session}
 use Rattle.model.specs.declared.Span.{Span}
 use Rattle.model.specs.declared.Table.{Table}
 use Rattle.model.specs.Bytes.{part}
 use Rattle.model.specs.Answer.{granted, first_fail}
+use Rattle.model.specs.Session.{Entry}
 use Rattle.model.specs.View.{find, live_at, is_live, session_in}
 use Rattle.model.specs.Data.{part_of, key_bytes}
 use Rattle.model.specs.Device.{Part, Key, outcome, checks, reply, world, bare}
+use Rattle.laws.specs.Effect.{find_bare}
 use Rattle.wire.specs.Read.{part_again, part_inside}
 use Rattle.keystore.specs.Stored.{key_at}
 use Rattle.keystore.specs.StoredLaws.{found_key}
@@ -38,20 +42,33 @@ handed_located : (b x y : List ℕ) (s k : ℕ) (q : Span) (t : Bool) → x ≡ 
 handed_located b x y s k q true e h f = rw (f, e) (part_located b y s k (sym h))
 handed_located b x y s k q false e h f = rw (f, e) (none_located b s)
 
-pub same_field : (t : Table) (g : ℕ) (f k : Field) (r w x : List ℕ) → f ≡ k → x ≡ (reply (bare t) g (Part k r w)).bytes → x ≡ (reply (bare t) g (Part f r w)).bytes
-same_field t g f k r w x e h = rw e h
-
 pub field_located : (t : Table) (g : ℕ) (f : Field) (r w x : List ℕ) (p q : Span)
     → x ≡ (reply (bare t) g (Part f r w)).bytes → part r p.start p.size ≡ part_of f r → q ≡ span_of p.start (length x)
     → Located r q (reply (bare t) g (Part f r w)).bytes
 unfolding reply outcome
 field_located t g f r w x p q e h d = handed_located r x (part_of f r) p.start p.size q (granted (first_fail (checks (bare t) g (Part f r w)))) e h d
 
-pub key_located : (t : Table) (b : List ℕ) (g n at : ℕ) (s : Session) (x : List ℕ) (p q : Span)
-    → at ≡ live_at t g n → ltb at 128 ≡ is_live (find (bare t) g n) → s ≡ session_in (find (bare t) g n)
-    → x ≡ (reply (world t b) g (Key n)).bytes → part b p.start p.size ≡ key_at b at s → q ≡ span_of p.start (length x)
-    → Located b q (reply (world t b) g (Key n)).bytes
-unfolding reply outcome
-key_located t b g n at s x p q hp ha hx e h d =
-    let hands = granted (first_fail (checks (world t b) g (Key n))) in
-    handed_located b x (key_bytes (find (world t b) g n)) p.start p.size q hands e (h ∙ found_key t b g n at s hp ha hx) d
+module _ (t : Table) (b : List ℕ) (g n : ℕ) (x : List ℕ) (q : Span) (e : x ≡ (reply (world t b) g (Key n)).bytes) where
+  abbrev hands : Bool
+  hands = granted (first_fail (checks (world t b) g (Key n)))
+
+  -- the span of the key of the session that was found
+  pub key_located : (at : ℕ) (s : Session) (p : Span) → at ≡ live_at t g n → at < 128 → true ≡ is_live (find (bare t) g n) → s ≡ session_in (find (bare t) g n)
+      → part b p.start p.size ≡ key_at b at s → q ≡ span_of p.start (length x) → Located b q (reply (world t b) g (Key n)).bytes
+  unfolding reply outcome
+  key_located at s p hp i ha hx h d =
+      let alive : ltb at 128 ≡ is_live (find (bare t) g n) = lt-ltb at 128 i ∙ ha in
+      handed_located b x (key_bytes (find (world t b) g n)) p.start p.size q hands e (h ∙ found_key t b g n at s hp alive hx) d
+
+  -- and where none was found there is none
+  pub no_key_located : false ≡ is_live (find (bare t) g n) → q ≡ span_of 0 0 → Located b q (reply (world t b) g (Key n)).bytes
+  unfolding reply outcome
+  no_key_located h d = nothing (find (world t b) g n) (h ∙ sym (find_bare (world t b) g n).0)
+    where
+      nothing : (o : Option Entry) → false ≡ is_live o → Located b q (cond hands (key_bytes o) [])
+      nothing (some k) l = absurd (false_true l)
+      nothing none l = rw d (go hands)
+        where
+          go : (h : Bool) → Located b (span_of 0 0) (cond h [] [])
+          go true = none_located b 0
+          go false = none_located b 0

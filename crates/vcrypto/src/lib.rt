@@ -11,7 +11,7 @@ use device::{Admission, Reply};
 use model::{Field, Span, Table};
 
 // The span of `size` bytes from `start`; from 0 where it is empty.
-fn from(start: usize, size: usize) -> Span
+fn span(start: usize, size: usize) -> Span
     ensures { result ≡ span_of start size }
 {
     if size == 0 {
@@ -20,30 +20,13 @@ fn from(start: usize, size: usize) -> Span
     Span { start, size }
 }
 
-// A part of a data request, as the device hands it on.
-fn part<'a, 'b>(
-    t: Table,
-    guest: u8,
-    readable: &'a [u8],
-    writable: &'b [u8],
-    field: Field,
-) -> &'a [u8]
-    ensures { result.now ≡ (reply (bare t) guest (Part field readable.now writable.now)).bytes }
-{
-    match field {
-        Field::Iv => device::iv(t, guest, readable, writable),
-        Field::Source => device::source(t, guest, readable, writable),
-        Field::Aad => device::aad(t, guest, readable, writable),
-    }
-}
-
-// Where it lies in the readable bytes.
+// Where a part of a data request lies in the readable bytes.
 fn part_span(t: Table, guest: u8, readable: &[u8], writable: &[u8], field: Field) -> Span
     ensures { Located readable.now result (reply (bare t) guest (Part field readable.now writable.now)).bytes }
 {
-    let bytes = part(t, guest, readable, writable, field);
+    let bytes = device::part(t, guest, readable, writable, field);
     let place = request::place(readable, field);
-    from(place.start, bytes.len())
+    span(place.start, bytes.len())
 }
 
 #[unsafe(no_mangle)]
@@ -132,9 +115,13 @@ pub extern "C" fn vcrypto_key(t: Table, guest: u8, number: u64, store: &[u8]) ->
     ensures { Located store.now result (reply (world t store.now) guest (Key number)).bytes }
 {
     let key = device::key(t, guest, number, store);
-    let found = table::lookup(t, guest, number);
-    let place = keystore::key_place(found.at, found.session);
-    from(place.start, key.len())
+    match table::lookup(&t, guest, number) {
+        Some(found) => span(
+            keystore::key_place(found.at, found.session).start,
+            key.len(),
+        ),
+        None => span(0, 0),
+    }
 }
 
 #[unsafe(no_mangle)]

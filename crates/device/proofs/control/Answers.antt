@@ -1,17 +1,14 @@
--- `device::control` meets its contract: one law for each way out.
-use Rattle.device.specs.Changes.{control_created, control_destroyed}
+-- `device::control` meets its contract: the outcome of the change.
+use Prim.Native.Nat.{ℕ}
+use Rattle.device.specs.Changes.{controlled}
+use Rattle.model.specs.Answer.{control_bytes}
+use mathlib.Core.Path.{ap, ◌∙◌}
 use Rattle.device.proofs.control.Goals as goal
 
-pub returns-then-op-eq2 : goal.returns-then-op-eq2
-returns-then-op-eq2 c = let done = c.create.ensures in
-    let kind = c.if-op-eq2.true in
-    let opcode = c.le32-op.ensures in
-    let e = control_created _ _ _ _ _ _ _ _ _ _ opcode kind (done.answer, (done.table, (done.store, done.writable))) in
-    record { answer = e.0; table = e.1.0; store = e.1.1.0; writable = e.1.1.1 }
-
 pub returns : goal.returns
-returns c = let done = c.destroy.ensures in
-    let kind = c.if-op-eq2.false in
-    let opcode = c.le32-op.ensures in
-    let e = control_destroyed _ _ _ _ _ _ _ _ _ _ opcode kind (done.answer, (done.table, (done.store, done.writable))) in
-    record { answer = e.0; table = e.1.0; store = e.1.1.0; writable = e.1.1.1 }
+returns c = let done = c.change-outcome.ensures in
+    let number = c.unwrap_or.ensures ∙ done.number in
+    let answer = c.answer-answer.ensures in
+    let written = c.put_control.ensures ∙ ap (λ (n : ℕ). control_bytes c.args.writable.now c.unwrap_or.result n) answer in
+    let e = controlled _ _ _ _ _ _ _ _ _ _ done.answer number done.table done.store written in
+    record { answer = answer ∙ e.0; table = e.1.0; store = e.1.1.0; writable = e.1.1.1 }

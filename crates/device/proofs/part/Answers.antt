@@ -1,12 +1,11 @@
 -- `device::part` meets its contract: one law for each way out.
-use Rattle.device.specs.Calls.{part_stop, part_empty, part_whole}
+use Rattle.device.specs.Calls.{part_refused, part_done}
+use Rattle.laws.specs.Tries.{never_ok}
+use Rattle.std.proofs.Math.Path.{refl}
 use Rattle.device.proofs.part.Goals as goal
 
-pub returns-then-first-ne-OK : goal.returns-then-first-ne-OK
-returns-then-first-ne-OK c = search part_stop
+pub returns-in-Err : goal.returns-in-Err
+returns-in-Err c = part_refused _ _ _ _ _ c.in-Err.ensures _ (never_ok _)
 
-pub returns-then-last-ne-OK : goal.returns-then-last-ne-OK
-returns-then-last-ne-OK c = search part_empty
-
-pub returns : goal.returns
-returns c = search part_whole
+pub returns-in-Ok : goal.returns-in-Ok
+returns-in-Ok c = part_done _ _ _ _ _ c.in-Ok.ensures _ refl _ c.part.ensures

@@ -6,5 +6,5 @@ use Rattle.occupancy.proofs.is_held.Goals as goal
 pub returns-then-slot-lt64 : goal.returns-then-slot-lt64
 returns-then-slot-lt64 c = c.has_bit.ensures ∙ sym (mark_low _ _ c.if-slot-lt64.true)
 
-pub returns : goal.returns
-returns c = c.has_bit-2.ensures ∙ sym (mark_high _ _ c.if-slot-lt64.false)
+pub returns-else-slot-lt64 : goal.returns-else-slot-lt64
+returns-else-slot-lt64 c = c.has_bit-else-slot-lt64.ensures ∙ sym (mark_high _ _ c.if-slot-lt64.false)

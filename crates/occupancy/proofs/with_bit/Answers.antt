@@ -14,6 +14,6 @@ pub returns-then-on : goal.returns-then-on
 returns-then-on c = let a = c.args in
     rw c.if-on.true (word_set 64 a.w a.i (omega arith) (omega arith))
 
-pub returns : goal.returns
-returns c = let a = c.args in
+pub returns-else-on : goal.returns-else-on
+returns-else-on c = let a = c.args in
     rw c.if-on.false (word_clear 64 a.w a.i (omega arith) (omega arith))

@@ -1,13 +1,13 @@
--- `rules::shares_ok` meets its contract: after i guests `good` and `sum` are those of the first i.
-use mathlib.Core.Path.{◌≡◌}
-use Prim.Native.Nat.{◌*◌, ◌-◌, ◌≤◌}
+-- `rules::shares_ok` meets its contract: the shares so far are right, and `sum` is that of their reserves.
+use Rattle.std.proofs.Common.{◌≡◌, ◌*◌, ◌≤◌, length, true}
 use Rattle.lists.specs.Sum.{sum_to}
 use Rattle.model.specs.Setup.{all_to}
 use Rattle.rules.specs.Shares.{share_ok, reserve_of}
 use Rattle.rules.proofs.shares_ok.Given as goal
 
-abbrev pub invariant-loop-i : goal.invariant-loop-i
-invariant-loop-i l = (l.i ≤ 8) × ((l.sum ≤ 255 * l.i) × ((l.good ≡ all_to l.i (share_ok l.reserves l.caps)) × (l.sum ≡ sum_to l.i (reserve_of l.reserves))))
-
-abbrev pub decreases-loop-i : goal.decreases-loop-i
-decreases-loop-i l = 8 - l.i
+abbrev pub invariant-loop-reserve : goal.invariant-loop-reserve
+invariant-loop-reserve l = record {
+  sum : l.sum ≡ sum_to (length l.yielded) (reserve_of l.fn.reserves);
+  good : all_to (length l.yielded) (share_ok l.fn.reserves l.fn.caps) ≡ true;
+  bound : l.sum ≤ 128 * length l.yielded;
+}

@@ -1,13 +1,9 @@
--- After i turns each guest's slots below i are counted, and the marks from slot i on are left.
+-- After each turn every guest's slots so far are counted, and the marks from there on are left.
 use mathlib.Core.Path.{◌≡◌}
-use Prim.Native.Nat.{◌≤◌, ◌-◌}
 use lib.ListN.{length}
 use Rattle.laws.specs.Bits.{From}
 use Rattle.laws.specs.Walk.{Counts}
 use Rattle.table.proofs.holdings.Given as goal
 
-abbrev pub invariant-loop-i : goal.invariant-loop-i
-invariant-loop-i l = (l.i ≤ 128) × (length l.n ≡ 8) × Counts l.t l.n l.i × From l.t.occupied l.i l.rest
-
-abbrev pub decreases-loop-i : goal.decreases-loop-i
-decreases-loop-i l = 128 - l.i
+abbrev pub invariant-loop-slot : goal.invariant-loop-slot
+invariant-loop-slot l = (length l.held ≡ 8) × Counts l.t l.held l.slot-index × From l.t.occupied l.slot-index l.marks

@@ -1,12 +1,9 @@
 -- The sum so far is that of the guests passed.
 use mathlib.Core.Path.{◌≡◌}
-use Prim.Native.Nat.{◌≤◌, ◌-◌, ◌*◌}
+use Prim.Native.Nat.{◌≤◌, ◌*◌}
 use Rattle.lists.specs.Sum.{sum_to, except}
 use Rattle.table.specs.Narrow.{lacks}
 use Rattle.table.proofs.owed.Given as goal
 
 abbrev pub invariant-loop-i : goal.invariant-loop-i
-invariant-loop-i l = (l.i ≤ 8) × (l.sum ≤ 255 * l.i) × (l.sum ≡ sum_to l.i (except l.guest (lacks l.guests l.held)))
-
-abbrev pub decreases-loop-i : goal.decreases-loop-i
-decreases-loop-i l = 8 - l.i
+invariant-loop-i l = (l.sum ≤ 255 * l.i) × (l.sum ≡ sum_to l.i (except l.guest (lacks l.guests l.held)))

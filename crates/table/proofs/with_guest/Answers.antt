@@ -1,17 +1,14 @@
 -- A store past the end changes nothing.
 use Rattle.std.proofs.Common.{arith}
-use Rattle.std.proofs.Common.{rules}
 use lib.Seq.{set_out}
-use Rattle.laws.specs.Walk.{length_guests}
 use Rattle.model.specs.Act.{with_guest}
 use Rattle.table.proofs.with_guest.Goals as goal
 
-pub returns-then-guest-lt8 : goal.returns-then-guest-lt8
+pub returns-then-from-guests : goal.returns-then-from-guests
 unfolding with_guest
-returns-then-guest-lt8 c = search rules
+returns-then-from-guests c = rw c.from-then-from-guests.ensures
 
-pub returns-else-guest-lt8 : goal.returns-else-guest-lt8
+pub returns-else-from-guests : goal.returns-else-from-guests
 unfolding with_guest
-returns-else-guest-lt8 c = let a = c.args in
-    let n = length_guests a.t c.well_formed.0 in
-    rw (set_out a.t.guests a.guest a.r (omega arith))
+returns-else-from-guests c = let a = c.args in
+    rw (set_out a.t.now.guests a.guest a.recorded (omega arith))

@@ -1,12 +1,17 @@
--- A mark and its slot stored; past the end nothing is.
+-- A mark and its slot stored; past the end the slot is none.
+use Rattle.std.proofs.Common.{arith}
+use lib.Seq.{set_out}
 use Rattle.laws.specs.Slots.{stored_at}
-use Rattle.laws.specs.Walk.{length_slots, slot_out}
-use Rattle.model.specs.Session.{slot_of}
+use Rattle.model.specs.Session.{place_of, slot_of}
 use Rattle.table.proofs.with_slot.Goals as goal
 
 pub returns-then-at-lt128 : goal.returns-then-at-lt128
 unfolding slot_of
-returns-then-at-lt128 c = rw c.with_mark-next.ensures (stored_at c.args.t (length_slots c.args.t c.well_formed.0) _ _)
+returns-then-at-lt128 c = let marks = c.occupied.ensures in
+    rw (c.with_mark-t.ensures, marks.value) (stored_at c.args.t.now marks.slots _ _)
 
 pub returns-else-at-lt128 : goal.returns-else-at-lt128
-returns-else-at-lt128 c = slot_out _ c.well_formed.0 _ _ c.if-at-lt128.false
+unfolding slot_of
+returns-else-at-lt128 c = let a = c.args in
+    let marks = c.occupied.ensures in
+    rw (c.with_mark-t.ensures, marks.value) (rw (set_out a.t.now.slots a.at a.slot (omega arith)) at (stored_at a.t.now marks.slots a.at (place_of a.held a.slot)))

@@ -1,26 +1,31 @@
--- After i turns the guest's slots below i are freed.
+-- After each turn the guest's slots so far are freed.
 use mathlib.Core.Path.{◌∙◌}
-use Rattle.std.proofs.Common.{arith}
-use Rattle.std.proofs.Common.{rules}
-use Rattle.laws.specs.Walk.{freed_none, freed_all, freed_more, freed_skip}
+use Prim.Native.Nat.{◌<◌, ◌^◌}
+use Rattle.std.proofs.Common.{arith, rules}
+use Rattle.std.proofs.lemmas.List.{set-get_or}
+use Rattle.laws.specs.Walk.{freed_first, freed_last, freed_one, freed_other}
+use Rattle.model.specs.declared.Table.{Table}
 use Rattle.model.specs.Session.{slot_of}
 use Rattle.table.proofs.without_guest.Goals as goal
 use Rattle.table.proofs.without_guest.Goals.{then-owned_by, else-owned_by}
 
-pub loop-i-init : goal.loop-i-init
-loop-i-init c = (omega arith, freed_none _ c.well_formed.0 _)
+pub loop-at-init : goal.loop-at-init
+loop-at-init c = let marks = c.occupied-marks.ensures in
+    let t = c.args.t.now in
+    let low : t.occupied.low < 2 ^ 64 = search rules in
+    let high : t.occupied.high < 2 ^ 64 = search rules in
+    rw marks.value (freed_first t marks.slots c.args.guest low high)
 
-pub loop-i-preserved : goal.loop-i-preserved
+pub loop-at-preserved : goal.loop-at-preserved
 unfolding slot_of
-loop-i-preserved c = let inv = c.loop-i.invariant in
-    let held = c.is_held in
-    let owned = c.owned_by in
-    let clear = c.free_slot-f.ensures in
-    let good = c.well_formed.0 in
+loop-at-preserved c = let turn = c.loop-at in
+    let t = c.args.t.now in
+    let n = c.occupied-marks.ensures.slots in
+    let u : Table = record { config = t.config; occupied = turn.marks; slots = turn.slot-items; guests = t.guests } in
     elim c.if-owned_by.branch [
-      | then-owned_by w ↦ (omega arith, w.next-is ∙ search (freed_more, good, inv.1, held.ensures, owned.ensures, clear, w.if-owned_by.true, rules))
-      | else-owned_by w ↦ (omega arith, w.next-is ∙ freed_skip _ good _ _ _ _ _ inv.1 held.ensures owned.ensures w.if-owned_by.false)
+      | then-owned_by w ↦ freed_one t n c.args.guest u turn.at _ _ turn.invariant c.is_held.ensures c.owned_by.ensures _ _ _ (w.marks-is ∙ w.with_mark-marks.ensures) w.slot-items-is w.free_slot.ensures w.if-owned_by.true
+      | else-owned_by w ↦ freed_other t n c.args.guest u turn.at _ _ turn.invariant c.is_held.ensures c.owned_by.ensures _ _ w.marks-is (w.slot-items-is ∙ set-get_or turn.slot-items turn.at _) w.if-owned_by.false
     ]
 
 pub returns : goal.returns
-returns c = c.loop-i.invariant.1 ∙ freed_all _ c.well_formed.0 _ _ (omega arith)
+returns c = c.loop-at.invariant ∙ freed_last c.args.t.now c.occupied-marks.ensures.slots _ _ (omega arith)

@@ -1,8 +1,7 @@
 -- `wire::le32` meets its contract. Assumes nothing.
 use Rattle.std.proofs.Common.{rules}
-use Rattle.model.specs.Bytes.{le32}
+use Rattle.wire.specs.Read.{number_32}
 use Rattle.wire.proofs.le32.Goals as goal
 
 pub returns : goal.returns
-unfolding le32
-returns c = search rules
+returns c = search (rules, number_32)

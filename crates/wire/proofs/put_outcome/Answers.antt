@@ -5,12 +5,12 @@ use Rattle.laws.specs.Chain.{choices}
 use Rattle.wire.specs.Write.{control_16, control_1}
 use Rattle.wire.proofs.put_outcome.Goals as goal
 
-pub returns-then-writable-eq16 : goal.returns-then-writable-eq16
-returns-then-writable-eq16 c = search (control_16, arith)
+pub returns-in-16 : goal.returns-in-16
+returns-in-16 c = search (control_16, arith)
 
-pub returns-then-writable-eq1 : goal.returns-then-writable-eq1
-returns-then-writable-eq1 c = control_1 _ _ _ (omega arith)
+pub returns-in-1 : goal.returns-in-1
+returns-in-1 c = search (control_1, arith)
 
-pub returns-else-writable-eq1 : goal.returns-else-writable-eq1
+pub returns-in_default : goal.returns-in_default
 unfolding control_outcome
-returns-else-writable-eq1 c = search choices
+returns-in_default c = search choices

@@ -1,13 +1,13 @@
 -- `wire::put_status` meets its contract. Assumes nothing.
-use mathlib.Core.Path.{refl}
-use Rattle.std.proofs.Common.{arith}
+use Rattle.std.proofs.Common.{arith, refl}
+use Rattle.std.proofs.lemmas.Grind.{common_steps}
 use Rattle.model.specs.Answer.{data_outcome}
 use Rattle.wire.specs.Write.{data_empty}
 use Rattle.wire.proofs.put_status.Goals as goal
 
-pub returns-then-n-gt0 : goal.returns-then-n-gt0
+pub returns-in-Some : goal.returns-in-Some
 unfolding data_outcome
-returns-then-n-gt0 c = refl
+returns-in-Some c = refl
 
-pub returns-else-n-gt0 : goal.returns-else-n-gt0
-returns-else-n-gt0 c = data_empty _ _ (omega arith)
+pub returns-in_default : goal.returns-in_default
+returns-in_default c = grind (arith, common_steps, data_empty)

@@ -1,5 +1,0 @@
--- `request::takes` meets its contract: its definition, with each callee's answer for what the callee's contract says.
-use Rattle.request.proofs.takes.Goals as goal
-
-pub returns : goal.returns
-returns c = rw c.config_ok.ensures
