@@ -1,5 +1,5 @@
-// The lent key store: 16,384 bytes, of which slot s owns the 128 from s * 128. A store of another length and a slot
-// above 127 are left as they are.
+// The lent key store: 16,384 bytes, of which slot s owns the 128 from s * 128. A store of another length, but where all
+// of it is cleared, and a slot above 127 are left as they are.
 #![tactic(auto)]
 
 ghost use Rattle.std.specs.Prelude.{◌≡◌, cond, List, ℕ, length, take, replicate};
