@@ -136,11 +136,14 @@ fn form_answer(k: Config, readable: &[u8]) -> Result<(), Refusal>
 }
 
 // The session number and the room for a create.
+#[tactic(auto, using(crate::specs::Answers::slot_granted), unfolding(model::specs::Answer::first_fail, table::specs::Narrow::next_number))]
 fn grant_answer(t: &Table, guest: u8) -> Result<Grant, Refusal>
     ensures answer { answer_in result ≡ first_fail (granting t.now guest) }
     ensures grant { IfOk result (IsNext t.now guest) }
 {
-    let number = table::next_number(table::guest_at(t, guest)).ok_or(Refusal::Error)?;
+    let Some(number) = table::next_number(table::guest_at(t, guest)) else {
+        return Err(Refusal::Error);
+    };
     check(table::has_room(t, guest), Refusal::NoSpace)?;
     let at = table::first_free(t).unwrap();
     Ok(Grant { at, number })
