@@ -51,23 +51,21 @@ pub fn set_up(config: &[u8], reserves: [u8; 8], caps: [u8; 8], store: &mut [u8])
     ensures table { result.table ≡ (set_up config.now reserves caps store.old).table }
     ensures store { store.new ≡ (set_up config.now reserves caps store.old).store }
 {
-    let k = request::config_of(config);
-    let outcome = request::set_up_answer(store.len(), config.len(), k, reserves, caps);
-    match outcome {
-        Ok(()) => {
-            keystore::clear_all(store);
-            Reply {
-                answer: OK,
-                table: table::fresh(k, reserves, caps),
-            }
-        }
-        Err(_) => {
-            let none = request::config_of(b"");
-            Reply {
-                answer: model::answer(outcome),
-                table: table::fresh(none, [0; 8], [0; 8]),
-            }
-        }
+    let given = request::config_of(config);
+    let outcome = request::set_up_answer(store.len(), config.len(), given, reserves, caps);
+    // One table is built for both ways: of a refused set-up it shows and shares nothing.
+    let mut shown = request::config_of(b"");
+    let mut least = [0; 8];
+    let mut most = [0; 8];
+    if outcome.is_ok() {
+        keystore::clear_all(store);
+        shown = given;
+        least = reserves;
+        most = caps;
+    }
+    Reply {
+        answer: model::answer(outcome),
+        table: table::fresh(shown, least, most),
     }
 }
 
@@ -318,12 +316,12 @@ pub fn admit(t: Table, guest: u8, readable: &[u8], writable: &mut [u8]) -> Admis
 }
 
 // A variable part of a data request; empty where it is refused.
-pub fn part<'a>(t: Table, guest: u8, readable: &'a [u8], writable: &[u8], field: Field) -> &'a [u8]
+fn part<'a>(t: Table, guest: u8, readable: &'a [u8], writable: &[u8], field: Field) -> &'a [u8]
     ensures { result.now ≡ (reply (bare t) guest (Part field readable.now writable.now)).bytes }
 {
     match data_answer(&t, guest, readable, writable.len()) {
         Ok(()) => request::part(readable, field),
-        Err(_) => &[],
+        Err(_) => b"",
     }
 }
 
@@ -382,7 +380,9 @@ pub fn finish(t: Table, guest: u8, opcode: u32, verdict: u8, writable: &mut [u8]
     ensures answer { result ≡ (reply (bare t) guest (Finish opcode verdict writable.old)).answer }
     ensures writable { writable.new ≡ (reply (bare t) guest (Finish opcode verdict writable.old)).writable }
 {
-    let outcome = request::finish_answer(is_here(&t, guest), writable.len());
+    let guests = t.guests;
+    let here = table::is_present(guest, table::guest_of(&guests, guest));
+    let outcome = request::finish_answer(here, writable.len());
     match outcome {
         Ok(()) => {
             let status = request::status_of(opcode, verdict);

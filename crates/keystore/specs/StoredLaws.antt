@@ -24,7 +24,7 @@ use Rattle.keystore.specs.Stored.{stored, cleared, key_at}
 
 -- ---- keys with zeros behind them
 
-padded_empty : (n : ℕ) → padded n [] ≡ replicate n 0
+pub padded_empty : (n : ℕ) → padded n [] ≡ replicate n 0
 unfolding padded
 padded_empty zero = refl
 padded_empty (suc n) = ap (λ (l : List ℕ). 0 ∷ l) (padded_empty n)
@@ -61,7 +61,7 @@ module _ (b : List ℕ) (i : ℕ) (a : List ℕ) where
   unfolding stored
   stored_past h = rw (le-ltb _ _ h, and_false (sized (length b)))
 
-  stored_in : length b ≡ 16384 → i < 128 → stored b i a ≡ with_area b i a
+  pub stored_in : length b ≡ 16384 → i < 128 → stored b i a ≡ with_area b i a
   unfolding stored
   stored_in h k = rw (eq-eqb _ _ h, lt-ltb _ _ k)
 

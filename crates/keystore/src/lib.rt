@@ -15,7 +15,9 @@ fn fill(out: &mut [u8], key: &[u8])
 {
     let n = key.len().min(out.len());
     let (front, back) = out.split_at_mut(n);
-    front.copy_from_slice(&key[..n]);
+    for (i, byte) in front.iter_mut().enumerate() {
+        *byte = key[i];
+    }
     back.fill(0);
 }
 

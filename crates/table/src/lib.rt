@@ -81,14 +81,21 @@ fn occupied(t: &model::Table) -> model::Occupied
     t.occupied
 }
 
-// The record of a guest; one above 7 has none.
-pub fn guest_at(t: &model::Table, guest: u8) -> model::Guest
-    ensures { result ≡ guest_at t.now guest }
+// The record of a guest among the eight; one above 7 has none.
+pub fn guest_of(guests: &[model::Guest; 8], guest: u8) -> model::Guest
+    ensures { result ≡ get_or guests.now guest (new_guest 0 0) }
 {
-    t.guests
+    guests
         .get(usize::from(guest))
         .copied()
         .unwrap_or(new_guest(0, 0))
+}
+
+// The record of a guest in the table.
+pub fn guest_at(t: &model::Table, guest: u8) -> model::Guest
+    ensures { result ≡ guest_at t.now guest }
+{
+    guest_of(&t.guests, guest)
 }
 
 // The guest, whose record is given, is at most 7 and attached.

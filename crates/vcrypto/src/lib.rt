@@ -20,11 +20,22 @@ fn span(start: usize, size: usize) -> Span
     Span { start, size }
 }
 
-// Where a part of a data request lies in the readable bytes.
+// A part of a data request, by the device's call for it.
+fn part<'a>(t: Table, guest: u8, readable: &'a [u8], writable: &[u8], field: Field) -> &'a [u8]
+    ensures { result.now ≡ (reply (bare t) guest (Part field readable.now writable.now)).bytes }
+{
+    match field {
+        Field::Iv => device::iv(t, guest, readable, writable),
+        Field::Source => device::source(t, guest, readable, writable),
+        Field::Aad => device::aad(t, guest, readable, writable),
+    }
+}
+
+// Where it lies in the readable bytes.
 fn part_span(t: Table, guest: u8, readable: &[u8], writable: &[u8], field: Field) -> Span
     ensures { Located readable.now result (reply (bare t) guest (Part field readable.now writable.now)).bytes }
 {
-    let bytes = device::part(t, guest, readable, writable, field);
+    let bytes = part(t, guest, readable, writable, field);
     let place = request::place(readable, field);
     span(place.start, bytes.len())
 }
