@@ -2,7 +2,7 @@
 // leaves is `reply` and `next` of its request, and `set_up`, in the crate model.
 #![tactic(auto)]
 
-ghost use Rattle.std.specs.Prelude.{◌≡◌, ◌<◌, suc, cond, length, is_some, unwrap_or, IfOk};
+ghost use Rattle.std.specs.Prelude.{◌≡◌, ◌<◌, suc, cond, length, is_some, unwrap_or, IfOk, []};
 ghost use Rattle.std.specs.Result.{result_unwrap_or};
 ghost use Rattle.model.specs.declared.Field.TheVariants.{Iv, Source, Aad};
 ghost use Rattle.model.specs.Bytes.{le64};
@@ -10,7 +10,7 @@ ghost use Rattle.model.specs.Answer.{first_fail, answer_in};
 ghost use Rattle.model.specs.Session.{guest_at, no_session};
 ghost use Rattle.model.specs.View.{find, live_at, is_live, session_in, present};
 ghost use Rattle.model.specs.Act.{create, destroy, table_after, store_after};
-ghost use Rattle.model.specs.Setup.{set_up_answer, set_up};
+ghost use Rattle.model.specs.Setup.{set_up_answer, set_up, config_of};
 ghost use Rattle.model.specs.Control.{is_create, new_entry, control_act};
 ghost use Rattle.model.specs.Device.{Attach, Control, Admit, Part, KeyAnswer, Key, Finish, if_granted, reply, next, world, bare};
 ghost use Rattle.table.specs.Search.{session_found};
@@ -45,6 +45,28 @@ struct Grant {
     number: u64,
 }
 
+// The configuration of no bytes.
+#[tactic(auto, unfolding(model::specs::Setup::config_of, model::specs::Bytes::le32, model::specs::Bytes::le64, model::specs::Bytes::byte))]
+fn no_config() -> Config
+    ensures { result ≡ config_of [] }
+{
+    Config {
+        status: 0,
+        queues: 0,
+        services: 0,
+        ciphers: 0,
+        ciphers2: 0,
+        hashes: 0,
+        macs: 0,
+        macs2: 0,
+        aeads: 0,
+        cipherkey: 0,
+        authkey: 0,
+        reserved: 0,
+        size: 0,
+    }
+}
+
 // A table with all slots free and a key store of zeros; a refusal gives the empty table and leaves the store.
 pub fn set_up(config: &[u8], reserves: [u8; 8], caps: [u8; 8], store: &mut [u8]) -> Reply
     ensures answer { result.answer ≡ set_up_answer config.now reserves caps store.old }
@@ -53,8 +75,8 @@ pub fn set_up(config: &[u8], reserves: [u8; 8], caps: [u8; 8], store: &mut [u8])
 {
     let given = request::config_of(config);
     let outcome = request::set_up_answer(store.len(), config.len(), given, reserves, caps);
-    // One table is built for both ways: of a refused set-up it shows and shares nothing.
-    let mut shown = request::config_of(b"");
+    // One reply for both ways, so that it is made once: of a refused set-up it shows and shares nothing.
+    let mut shown = no_config();
     let mut least = [0; 8];
     let mut most = [0; 8];
     if outcome.is_ok() {
@@ -380,6 +402,7 @@ pub fn finish(t: Table, guest: u8, opcode: u32, verdict: u8, writable: &mut [u8]
     ensures answer { result ≡ (reply (bare t) guest (Finish opcode verdict writable.old)).answer }
     ensures writable { writable.new ≡ (reply (bare t) guest (Finish opcode verdict writable.old)).writable }
 {
+    // The eight records alone: a table that came by value would be copied to be lent.
     let guests = t.guests;
     let here = table::is_present(guest, table::guest_of(&guests, guest));
     let outcome = request::finish_answer(here, writable.len());

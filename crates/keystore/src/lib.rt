@@ -15,6 +15,7 @@ fn fill(out: &mut [u8], key: &[u8])
 {
     let n = key.len().min(out.len());
     let (front, back) = out.split_at_mut(n);
+    // Byte by byte: `copy_from_slice` would ask the archive's host for memmove.
     for (i, byte) in front.iter_mut().enumerate() {
         *byte = key[i];
     }

@@ -28,6 +28,6 @@ returns c = let given = c.config_of-given.ensures in
           let e = set_up_done _ _ _ _ _ _ given answer (granted _ _ kind w.if-is_ok.true) _ (w.store-is ∙ w.clear_all.ensures) _ table in
           record { answer = c.answer.ensures ∙ e.0; table = e.1.0; store = e.1.1 }
       | else-is_ok w ↦ let table = rw (w.shown-is, w.least-is, w.most-is) at c.fresh.ensures in
-          let e = set_up_refused _ _ _ _ _ _ given answer (refused _ _ kind w.if-is_ok.false) _ c.config_of-shown.ensures _ table in
+          let e = set_up_refused _ _ _ _ _ _ given answer (refused _ _ kind w.if-is_ok.false) _ c.no_config-shown.ensures _ table in
           record { answer = c.answer.ensures ∙ e.0; table = e.1.0; store = w.store-is ∙ e.1.1 }
     ]
