@@ -48,6 +48,11 @@ pub field_located : (t : Table) (g : ℕ) (f : Field) (r w x : List ℕ) (p q : 
 unfolding reply outcome
 field_located t g f r w x p q e h d = handed_located r x (part_of f r) p.start p.size q (granted (first_fail (checks (bare t) g (Part f r w)))) e h d
 
+-- bytes that are none have no place
+pub empty_located : (b x y : List ℕ) (q : Span) → x ≡ y → length x ≡ 0 → q ≡ span_of 0 0 → Located b q y
+empty_located b [] y q e n h = rw (← e, h) (none_located b 0)
+empty_located b (z ∷ x) y q e n h = absurd (omega arith)
+
 module _ (t : Table) (b : List ℕ) (g n : ℕ) (x : List ℕ) (q : Span) (e : x ≡ (reply (world t b) g (Key n)).bytes) where
   abbrev hands : Bool
   hands = granted (first_fail (checks (world t b) g (Key n)))

@@ -36,6 +36,10 @@ fn part_span(t: Table, guest: u8, readable: &[u8], writable: &[u8], field: Field
     ensures { Located readable.now result (reply (bare t) guest (Part field readable.now writable.now)).bytes }
 {
     let bytes = part(t, guest, readable, writable, field);
+    // No bytes have no place: their request may be too short to be asked for it.
+    if bytes.len() == 0 {
+        return span(0, 0);
+    }
     let place = request::place(readable, field);
     span(place.start, bytes.len())
 }
