@@ -88,7 +88,7 @@ fn run(s: &[u8], answers: &mut [u8; ANSWERS]) -> Option<Tally>
         let r = trace::record_at(s, at);
         let a = answer(t, r, trace::body(s, at, r), &mut store);
         *slot = a.answer;
-        tally::count(&mut tally, a.answer);
+        tally = tally::count_copy(tally, a.answer);
         t = a.table;
         at += 6 + usize::from(r.readable);
     }

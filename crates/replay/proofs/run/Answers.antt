@@ -54,7 +54,7 @@ loop-slot-preserved c =
       walk = (walks_more s (trailer s) loop.at n i after _ here more (omega arith) inv.walk).1;
       store = omega arith;
       answers = rw (take_more_set, append_assoc) (ap (λ l. take i loop.slot-items ++ l) (sym step) ∙ inv.answers);
-      tally = rw take_more_set (c.count.ensures ∙ tally_more _ _ _ inv.tally (omega (arith, length-take-le i loop.slot-items (omega arith))));
+      tally = rw take_more_set (c.count_copy-tally.ensures ∙ tally_more _ _ _ inv.tally (omega (arith, length-take-le i loop.slot-items (omega arith))));
     }
 
 pub returns : goal.returns
