@@ -59,6 +59,15 @@ module _ (t : Table) (g : ℕ) (r : List ℕ) (room store : ℕ) (e : ok ≡ fir
       let sized : eqb (length b) 16384 ≡ true = rw (← hs) p.0 in
       (hu ∙ rw ha.0, hb ∙ rw (sized, lt-ltb at 128 ha.1, ha.0))
 
+-- ---- what control leaves of the writable bytes w: a is the answer, n a granted request's session number, w₁ what the change left
+
+module _ (w : List ℕ) (a n : ℕ) (w₁ : List ℕ) (h : w₁ ≡ if_granted a (control_bytes w n ok) w) where
+  pub written_granted : a ≡ 0 → w₁ ≡ control_bytes w (if_granted a n 0) a
+  written_granted z = h ∙ rw (eq-eqb a ok z, z) refl
+
+  pub written_refused : (a ≡ 0 → ⊥) → (w' : List ℕ) → w' ≡ control_bytes w₁ 0 a → w' ≡ control_bytes w (if_granted a n 0) a
+  written_refused d w' k = k ∙ rw (h, ne_eqb a ok d) refl
+
 -- ---- control: a is the answer, id the session number of the outcome
 
 module _ (t : Table) (g : ℕ) (r w b : List ℕ) where

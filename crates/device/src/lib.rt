@@ -3,10 +3,9 @@
 #![tactic(auto)]
 
 ghost use Rattle.std.specs.Prelude.{◌≡◌, ◌<◌, suc, cond, length, is_some, unwrap_or, IfOk, []};
-ghost use Rattle.std.specs.Result.{result_unwrap_or};
 ghost use Rattle.model.specs.declared.Field.TheVariants.{Iv, Source, Aad};
 ghost use Rattle.model.specs.Bytes.{le64};
-ghost use Rattle.model.specs.Answer.{first_fail, answer_in};
+ghost use Rattle.model.specs.Answer.{ok, first_fail, answer_in, control_bytes};
 ghost use Rattle.model.specs.Session.{guest_at, no_session};
 ghost use Rattle.model.specs.View.{find, live_at, is_live, session_in, present};
 ghost use Rattle.model.specs.Act.{create, destroy, table_after, store_after};
@@ -185,27 +184,29 @@ fn create_answer(
     grant_answer(t, guest)
 }
 
-// A new session in the lowest free slot, and its whole key area; hands on its number.
+// A new session in the lowest free slot, and its whole key area; the outcome, which names its number, is written before both.
 fn create(
     t: &mut Table,
     guest: u8,
     readable: &[u8],
-    room: usize,
+    writable: &mut [u8],
     store: &mut [u8],
-) -> Result<u64, Refusal>
-    ensures answer { answer_in result ≡ first_fail (creation t.old guest readable.now room (length store.old)) }
-    ensures number { IfOk result (λ number. number ≡ suc (guest_at t.old guest).last) }
+) -> Result<(), Refusal>
+    ensures answer { answer_in result ≡ first_fail (creation t.old guest readable.now (length writable.old) (length store.old)) }
     ensures table { t.new ≡ if_granted (answer_in result) (table_after t.old guest (create (new_entry readable.now))) t.old }
     ensures store { store.new ≡ if_granted (answer_in result) (store_after t.old store.old guest (create (new_entry readable.now))) store.old }
+    ensures writable { writable.new ≡ if_granted (answer_in result) (control_bytes writable.old (suc (guest_at t.old guest).last) ok) writable.old }
 {
-    let Grant { at, number } = create_answer(t, guest, readable, room, store.len())?;
+    let Grant { at, number } = create_answer(t, guest, readable, writable.len(), store.len())?;
     let x = request::asked(readable);
+    // After the fields are read: outcome bytes that overlap them, against rule 12.2, are to leave the session as it was checked.
+    wire::put_control(writable, number, OK);
     let start = 16 + request::create_part(x.service);
     let key = wire::part(readable, start, x.keylen as usize);
     keystore::put_key(store, at, x.service, key);
     let r = table::guest_at(t, guest);
     table::granted(t, guest, r, at, number, x);
-    Ok(number)
+    Ok(())
 }
 
 // All checks of a destroy, and where the session that it names was found.
@@ -227,42 +228,43 @@ fn destroy_answer(
     Ok(found.unwrap().at)
 }
 
-// The session's slot freed, its fields cleared and its key area zeroed; a destroy names session 0.
+// The session's slot freed, its fields cleared and its key area zeroed; the outcome is written before that.
 fn destroy(
     t: &mut Table,
     guest: u8,
     readable: &[u8],
-    room: usize,
+    writable: &mut [u8],
     store: &mut [u8],
-) -> Result<u64, Refusal>
-    ensures answer { answer_in result ≡ first_fail (destruction t.old guest readable.now room (length store.old)) }
-    ensures number { IfOk result (λ number. number ≡ 0) }
+) -> Result<(), Refusal>
+    ensures answer { answer_in result ≡ first_fail (destruction t.old guest readable.now (length writable.old) (length store.old)) }
     ensures table { t.new ≡ if_granted (answer_in result) (table_after t.old guest (destroy (le64 readable.now 16))) t.old }
     ensures store { store.new ≡ if_granted (answer_in result) (store_after t.old store.old guest (destroy (le64 readable.now 16))) store.old }
+    ensures writable { writable.new ≡ if_granted (answer_in result) (control_bytes writable.old 0 ok) writable.old }
 {
-    let at = destroy_answer(t, guest, readable, room, store.len())?;
+    let at = destroy_answer(t, guest, readable, writable.len(), store.len())?;
+    wire::put_control(writable, 0, OK);
     keystore::clear_area(store, at);
     table::without_slot(t, at);
-    Ok(0)
+    Ok(())
 }
 
-// A create or a destroy in place, and the session number of its outcome.
+// A create or a destroy in place, with its outcome where it is granted.
 fn change(
     t: &mut Table,
     guest: u8,
     readable: &[u8],
-    room: usize,
+    writable: &mut [u8],
     store: &mut [u8],
-) -> Result<u64, Refusal>
-    ensures answer { answer_in result ≡ first_fail (changing t.old guest readable.now room (length store.old)) }
-    ensures number { result_unwrap_or result 0 ≡ if_granted (answer_in result) (cond (is_create readable.now) (suc (guest_at t.old guest).last) 0) 0 }
+) -> Result<(), Refusal>
+    ensures answer { answer_in result ≡ first_fail (changing t.old guest readable.now (length writable.old) (length store.old)) }
     ensures table { t.new ≡ if_granted (answer_in result) (table_after t.old guest (control_act readable.now)) t.old }
     ensures store { store.new ≡ if_granted (answer_in result) (store_after t.old store.old guest (control_act readable.now)) store.old }
+    ensures writable { writable.new ≡ if_granted (answer_in result) (control_bytes writable.old (cond (is_create readable.now) (suc (guest_at t.old guest).last) 0) ok) writable.old }
 {
     if wire::le32(readable, 0) % 256 == CREATE {
-        create(t, guest, readable, room, store)
+        create(t, guest, readable, writable, store)
     } else {
-        destroy(t, guest, readable, room, store)
+        destroy(t, guest, readable, writable, store)
     }
 }
 
@@ -274,9 +276,11 @@ pub fn control(t: Table, guest: u8, readable: &[u8], writable: &mut [u8], store:
     ensures writable { writable.new ≡ (reply (world t store.old) guest (Control readable.now writable.old)).writable }
 {
     let mut next = t;
-    let outcome = change(&mut next, guest, readable, writable.len(), store);
+    let outcome = change(&mut next, guest, readable, writable, store);
     let answer = model::answer(outcome);
-    wire::put_control(writable, outcome.unwrap_or(0), answer);
+    if answer != OK {
+        wire::put_control(writable, 0, answer);
+    }
     Reply {
         answer,
         table: next,
