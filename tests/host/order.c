@@ -1,4 +1,4 @@
-/* In what order a control request's buffers are written, seen on pages that may not be written at first: the outcome bytes, then the key store. And what a
+/* In what order a control request's buffers are written, seen on pages that may not be written at first: all outcome bytes, then the key store. And what a
  * create stores where the outcome bytes overlap the request, against rule 12.2: the session that was checked. */
 #define _GNU_SOURCE
 #include "guest.h"
@@ -9,8 +9,9 @@
 
 enum { GUEST = 2, PAGE = 4096, FIXED = VCRYPTO_CONTROL_HEADER + VCRYPTO_CIPHER_CREATE_PART, KEY = 32 };
 
-static uint8_t *outcome, *store; /* on pages of their own */
-static char order[8];            /* which was written first and which next: o and s */
+static uint8_t *outcome, *store;                     /* on pages of their own */
+static char order[8];                                /* which was written first and which next: o and s */
+static uint8_t before_store[VCRYPTO_CREATE_OUTCOME]; /* the outcome as it was when the store was first written */
 
 static bool within(const void *at, const uint8_t *start, size_t size)
 {
@@ -25,6 +26,8 @@ static void written(int number, siginfo_t *info, void *context)
     if (!first && !within(info->si_addr, store, VCRYPTO_STORE_SIZE))
         _Exit(2);
     order[strlen(order)] = first ? 'o' : 's';
+    if (!first)
+        memcpy(before_store, outcome, sizeof before_store);
     mprotect(first ? outcome : store, first ? PAGE : VCRYPTO_STORE_SIZE, PROT_READ | PROT_WRITE);
 }
 
@@ -40,11 +43,17 @@ static struct vcrypto_table control(const char *what, struct vcrypto_table table
                                     const char *expected)
 {
     memset(order, 0, sizeof order);
+    mprotect(outcome, PAGE, PROT_READ | PROT_WRITE);
+    memset(outcome, 0xee, PAGE);
     mprotect(outcome, PAGE, PROT_READ);
     mprotect(store, VCRYPTO_STORE_SIZE, PROT_READ);
     struct vcrypto_reply reply = vcrypto_control(table, GUEST, request, size, outcome, room, store, VCRYPTO_STORE_SIZE);
     if (reply.answer != answer || strcmp(order, expected) != 0) {
         printf("tests/host: %s: answer %u, written %s, expected %u and %s\n", what, reply.answer, order, answer, expected);
+        wrong = 1;
+    }
+    if (strchr(order, 's') && memcmp(before_store, outcome, sizeof before_store) != 0) {
+        printf("tests/host: %s: the key store is written before the whole outcome\n", what);
         wrong = 1;
     }
     return reply.table;
